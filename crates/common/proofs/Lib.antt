@@ -1,0 +1,4 @@
+-- Lemmas that the proofs of every crate share.
+pub mod Cases
+pub mod Tabulate
+pub mod Arms

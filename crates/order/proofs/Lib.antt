@@ -1,0 +1,3 @@
+-- Laws that the functions' proofs cite, and the cases that are proved.
+pub mod Arms
+pub mod Cases

@@ -1,0 +1,31 @@
+-- Data marks, document 01, "Fields". Assumes nothing.
+use mathlib.Core.Bool.{Bool, true, false, cond}
+use Prim.Native.Nat.{ℕ}
+use lib.Dec.{eqb}
+use Rattle.scan.specs.declared.Passed.{Passed}
+use Rattle.scan.specs.declared.Passed.the-variants.{Gap, Mark}
+use Rattle.scan.specs.declared.DataMark.{DataMark}
+use Rattle.scan.specs.declared.DataMark.the-variants.{Fb, F8}
+use Rattle.scan.specs.declared.Sought.{Sought}
+use Rattle.scan.specs.declared.Sought.the-variants.{On, Met}
+use Rattle.scan.specs.Marks.{passedOf}
+
+-- "Data marks are FB (normal) and F8 (deleted)."
+unfoldable pub markByte : DataMark → ℕ
+markByte Fb = 0xFB
+markByte F8 = 0xF8
+
+unfoldable pub isDeleted : DataMark → Bool
+isDeleted Fb = false
+isDeleted F8 = true
+
+-- "Other marks there are passed over."
+unfoldable pub dataMarkOf : ℕ → Sought
+dataMarkOf b = cond (eqb b 0xFB) (Met Fb) (cond (eqb b 0xF8) (Met F8) (On 0))
+
+unfoldable pub dataMarkIn : Passed → Sought
+dataMarkIn (Gap run) = On run
+dataMarkIn (Mark b) = dataMarkOf b
+
+unfoldable pub soughtOf : Bool → ℕ → ℕ → Sought
+soughtOf mfm cell run = dataMarkIn (passedOf mfm cell run)

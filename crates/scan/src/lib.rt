@@ -1,0 +1,241 @@
+// Fields on a stream of cells: marks, IDs and data marks, one cell a step, in both densities.
+ghost use mathlib.Core.Path.{_≡_};
+ghost use mathlib.Core.Bool.{cond};
+ghost use Rattle.scan.specs.Marks.{leadOf, carriesMark, runOf, passedOf, markCrc};
+ghost use Rattle.scan.specs.DataMarks.{dataMarkOf, dataMarkIn, soughtOf, markByte, isDeleted};
+ghost use Rattle.scan.specs.Ids.{begunOf, runIn, addedOf, grownOf, lookedOf, heardOf};
+
+// A1 with missing clocks.
+pub const SYNC: u16 = 0x1A1;
+
+// What a cell is behind those that passed.
+pub enum Passed {
+    // No mark ends here; so many flagged A1 cells, at most three, stand last in a row.
+    Gap(u8),
+    // A mark ends here, with this byte.
+    Mark(u8),
+}
+
+// The data mark that was met, by its byte.
+pub enum DataMark {
+    Fb,
+    F8,
+}
+
+pub enum Sought {
+    // No data mark ends here; so many flagged A1 cells stand last in a row.
+    On(u8),
+    Met(DataMark),
+}
+
+pub struct Id {
+    pub track: u8,
+    pub side: u8,
+    pub sector: u8,
+    pub length: u8,
+    pub good: bool,
+}
+
+// What has passed of an ID behind its mark: how many cells, the register, and the bytes among them.
+pub struct Part {
+    pub passed: u8,
+    pub crc: u16,
+    pub track: u8,
+    pub side: u8,
+    pub sector: u8,
+    pub length: u8,
+}
+
+// Where the scanner for IDs stands.
+pub enum Scan {
+    // In no ID; so many flagged A1 cells stand last in a row.
+    Gap(u8),
+    Field(Part),
+}
+
+pub enum Heard {
+    On(Scan),
+    // A whole ID ends here.
+    Whole(Id),
+}
+
+fn lead(mfm: bool) -> u8
+    ensures { λ r. ⌜ r ≡ leadOf mfm ⌝ }
+{
+    if mfm { 3 } else { 0 }
+}
+
+fn carries_mark(mfm: bool, cell: u16) -> bool
+    ensures { λ r. ⌜ r ≡ carriesMark mfm cell ⌝ }
+{
+    if mfm { cell < 256 } else { cell / 256 == 1 }
+}
+
+fn run_on(cell: u16, run: u8) -> u8
+    ensures { λ r. ⌜ r ≡ runOf cell run ⌝ }
+{
+    if cell == SYNC {
+        if run < 3 { run + 1 } else { 3 }
+    } else {
+        0
+    }
+}
+
+// One cell more for whoever waits for a mark, with the flagged A1 cells in a row before it.
+pub fn pass(mfm: bool, cell: u16, run: u8) -> Passed
+    ensures { λ r. ⌜ r ≡ passedOf mfm cell run ⌝ }
+{
+    if (lead(mfm) <= run) & carries_mark(mfm, cell) {
+        Passed::Mark((cell % 256) as u8)
+    } else {
+        Passed::Gap(run_on(cell, run))
+    }
+}
+
+// The register after the cells of a mark.
+pub fn mark_crc(mfm: bool, byte: u8) -> u16
+    ensures { λ r. ⌜ r ≡ markCrc mfm byte ⌝ }
+{
+    if mfm {
+        crc::step(0xCDB4, byte)
+    } else {
+        crc::step(0xFFFF, byte)
+    }
+}
+
+fn data_mark(byte: u8) -> Sought
+    ensures { λ r. ⌜ r ≡ dataMarkOf byte ⌝ }
+{
+    if byte == 0xFB {
+        Sought::Met(DataMark::Fb)
+    } else if byte == 0xF8 {
+        Sought::Met(DataMark::F8)
+    } else {
+        Sought::On(0)
+    }
+}
+
+fn data_mark_in(passed: Passed) -> Sought
+    ensures { λ r. ⌜ r ≡ dataMarkIn passed ⌝ }
+{
+    match passed {
+        Passed::Gap(run) => Sought::On(run),
+        Passed::Mark(byte) => data_mark(byte),
+    }
+}
+
+// One cell more for whoever waits for a data mark; other marks are passed over.
+pub fn seek_data(mfm: bool, cell: u16, run: u8) -> Sought
+    ensures { λ r. ⌜ r ≡ soughtOf mfm cell run ⌝ }
+{
+    data_mark_in(pass(mfm, cell, run))
+}
+
+pub fn mark_byte(mark: DataMark) -> u8
+    ensures { λ r. ⌜ r ≡ markByte mark ⌝ }
+{
+    match mark {
+        DataMark::Fb => 0xFB,
+        DataMark::F8 => 0xF8,
+    }
+}
+
+pub fn is_deleted(mark: DataMark) -> bool
+    ensures { λ r. ⌜ r ≡ isDeleted mark ⌝ }
+{
+    match mark {
+        DataMark::Fb => false,
+        DataMark::F8 => true,
+    }
+}
+
+fn begin(mfm: bool, byte: u8) -> Scan
+    ensures { λ r. ⌜ r ≡ begunOf mfm byte ⌝ }
+{
+    if byte == 0xFE {
+        Scan::Field(Part {
+            passed: 0,
+            crc: mark_crc(mfm, 0xFE),
+            track: 0,
+            side: 0,
+            sector: 0,
+            length: 0,
+        })
+    } else {
+        Scan::Gap(0)
+    }
+}
+
+fn pick(on: bool, a: u8, b: u8) -> u8
+    ensures { λ r. ⌜ r ≡ cond on a b ⌝ }
+{
+    if on { a } else { b }
+}
+
+// An unflagged cell of an ID.
+fn add(part: Part, byte: u8) -> Heard
+    ensures { λ r. ⌜ r ≡ addedOf part byte ⌝ }
+{
+    let at = part.passed;
+    let crc = crc::step(part.crc, byte);
+    if at < 5 {
+        Heard::On(Scan::Field(Part {
+            passed: at + 1,
+            crc: crc,
+            track: pick(at == 0, byte, part.track),
+            side: pick(at == 1, byte, part.side),
+            sector: pick(at == 2, byte, part.sector),
+            length: pick(at == 3, byte, part.length),
+        }))
+    } else {
+        Heard::Whole(Id {
+            track: part.track,
+            side: part.side,
+            sector: part.sector,
+            length: part.length,
+            good: crc == 0,
+        })
+    }
+}
+
+fn run_in(scan: Scan) -> u8
+    ensures { λ r. ⌜ r ≡ runIn scan ⌝ }
+{
+    match scan {
+        Scan::Gap(run) => run,
+        Scan::Field(_) => 0,
+    }
+}
+
+// A cell that ends no mark: an ID's next if it may be, and else the gap's.
+fn grow(cell: u16, run: u8, scan: Scan) -> Heard
+    ensures { λ r. ⌜ r ≡ grownOf cell run scan ⌝ }
+{
+    match scan {
+        Scan::Gap(_) => Heard::On(Scan::Gap(run)),
+        Scan::Field(part) => {
+            if cell < 256 {
+                add(part, (cell % 256) as u8)
+            } else {
+                Heard::On(Scan::Gap(run))
+            }
+        }
+    }
+}
+
+// A mark begins anew, whatever the scanner was in.
+fn look(mfm: bool, cell: u16, scan: Scan, passed: Passed) -> Heard
+    ensures { λ r. ⌜ r ≡ lookedOf mfm cell scan passed ⌝ }
+{
+    match passed {
+        Passed::Gap(run) => grow(cell, run, scan),
+        Passed::Mark(byte) => Heard::On(begin(mfm, byte)),
+    }
+}
+
+// One cell more for whoever waits for an ID.
+pub fn hear(mfm: bool, cell: u16, scan: Scan) -> Heard
+    ensures { λ r. ⌜ r ≡ heardOf mfm cell scan ⌝ }
+{
+    look(mfm, cell, scan, pass(mfm, cell, run_in(scan)))
+}

@@ -1,0 +1,299 @@
+// Bench scripts made from a seed while the model runs, so that each line suits the machine.
+
+mod commands;
+mod forcing;
+mod formatting;
+mod refusing;
+mod serving;
+mod viewing;
+
+use crate::bench::Bench;
+use crate::density::Density;
+use crate::field::{self, FLAG};
+use crate::layout;
+use crate::random::Random;
+use crate::script::{self, Parsed};
+use crate::tracks::{self, Plan};
+
+/// Cells that one line C may name.
+const CELLS_PER_LINE: usize = 64;
+/// Equal cells from which on a line F is shorter than lines C.
+const FILL_FROM: usize = 16;
+const NO_LIMIT: usize = 0xFFFF;
+
+const READY: u8 = 1;
+const PROTECT: u8 = 2;
+const TRACK_0: u8 = 4;
+const HEAD_LOADED: u8 = 8;
+
+/// Lines that cannot be carried out; one of them may end a script.
+const BAD_LINES: [&str; 16] = [
+    "B 1",
+    "G",
+    "G 10000",
+    "W 0",
+    "W 100 0",
+    "R 100",
+    "N 10",
+    "P 2 800",
+    "K 1901",
+    "V 1900 1",
+    "F 0 1901 0",
+    "C 0",
+    "Z",
+    "b",
+    "B\t",
+    "G 1G",
+];
+
+pub struct Generator {
+    random: Random,
+    bench: Bench,
+    script: String,
+    /// How many lines the script has.
+    line_count: usize,
+    /// The drive lines as the script last named them.
+    wires: u8,
+    plan: Plan,
+}
+
+/// The script of a seed.
+pub fn script(seed: u64) -> String {
+    script_on(seed, Bench::new())
+}
+
+/// The script of a seed for this bench; it has lines Q where the bench carries them out.
+pub fn script_on(seed: u64, bench: Bench) -> String {
+    let mut generator = Generator::new(seed, bench);
+    let enough = generator.random.between(300, 2000);
+    generator.begin();
+    while generator.line_count < enough {
+        generator.scene();
+    }
+    generator.finish();
+    generator.script
+}
+
+impl Generator {
+    /// A generator with the machine that is there before the first P.
+    fn new(seed: u64, bench: Bench) -> Generator {
+        Generator {
+            random: Random::new(seed),
+            bench,
+            script: String::new(),
+            line_count: 0,
+            wires: 0,
+            plan: Plan {
+                density: Density::Fm,
+                length: 2048,
+                track: 0,
+                first_sector: 1,
+                bad_ids: 8,
+            },
+        }
+    }
+
+    /// Mostly power-on; now and then the machine that is there already gets a track.
+    fn begin(&mut self) {
+        if self.random.one_in(8) {
+            self.lay_random_track();
+        } else {
+            self.power_on();
+        }
+    }
+
+    fn scene(&mut self) {
+        match self.random.below(25) {
+            0..=3 => self.stepping_scene(),
+            4..=9 => self.sector_scene(),
+            10..=11 => self.address_scene(),
+            12 => self.read_track_scene(),
+            13 => self.write_track_scene(),
+            14..=19 => self.forcing_scene(),
+            20 => self.waiting_scene(),
+            21..=22 => self.refusing_scene(),
+            23 => self.viewing_scene(),
+            _ if self.random.one_in(4) => self.power_on(),
+            _ => self.comment(),
+        }
+    }
+
+    /// The last cells of all, so that every write is compared; then at times a bad line.
+    fn finish(&mut self) {
+        for place in (0..self.bench.current.len()).step_by(CELLS_PER_LINE) {
+            let count = CELLS_PER_LINE.min(self.bench.current.len() - place);
+            self.say(format!("V {:X} {:X}", place, count));
+        }
+        if self.random.one_in(4) {
+            let bad = self.random.pick(&BAD_LINES);
+            self.script.push_str(&format!("{}\nU\n", bad));
+        }
+    }
+
+    /// Writes one line into the script and carries it out.
+    fn say(&mut self, text: String) {
+        let line = match self.random.below(40) {
+            0 => format!("  {}  ", text.replace(' ', "   ")),
+            1 => format!("{} # so", text),
+            _ => text,
+        };
+        if let Parsed::Line(parsed) = script::parse(line.as_bytes()) {
+            let printed = self.bench.carry_out(&parsed);
+            assert!(printed.is_some(), "the generator made the bad line {line}");
+        }
+        self.script.push_str(&line);
+        self.script.push('\n');
+        self.line_count += 1;
+    }
+
+    fn comment(&mut self) {
+        let text = self.random.pick(&["", "  ", "# a comment", "   # B B B"]);
+        self.say(text.to_string());
+    }
+
+    fn load(&mut self, register: u8, byte: u8) {
+        if self.random.one_in(8) {
+            self.say(format!("W {:x} {:x}", register, byte));
+        } else {
+            self.say(format!("W {:X} {:02X}", register, byte));
+        }
+    }
+
+    fn read(&mut self, register: u8) {
+        self.say(format!("R {:X}", register));
+    }
+
+    fn byte_time(&mut self) {
+        self.say("B".to_string());
+    }
+
+    fn go(&mut self, limit: usize) {
+        self.say(format!("G {:X}", limit));
+    }
+
+    fn set_wires(&mut self, wires: u8) {
+        self.wires = wires;
+        self.say(format!("N {:X}", wires));
+    }
+
+    fn toggle(&mut self, wire: u8) {
+        self.set_wires(self.wires ^ wire);
+    }
+
+    fn is_busy(&self) -> bool {
+        self.bench.machine.is_busy()
+    }
+
+    /// Sets the head's place; only an idle machine is moved so.
+    fn put_head(&mut self, position: usize) {
+        if !self.is_busy() {
+            self.say(format!("X {:X}", position % self.plan.length));
+        }
+    }
+
+    /// A place for the head before the next command: where it is, near the index, or anywhere.
+    fn choose_head(&mut self) {
+        let length = self.plan.length;
+        match self.random.below(4) {
+            0 => {}
+            1 => {
+                let place = length + 2 - self.random.between(1, 6);
+                self.put_head(place);
+            }
+            _ => {
+                let place = self.random.below(length);
+                self.put_head(place);
+            }
+        }
+    }
+
+    /// A new machine with a new track; at times a refused length comes first.
+    fn power_on(&mut self) {
+        let density = self.random.pick(&[Density::Fm, Density::Mfm]);
+        let letter = u8::from(density == Density::Mfm);
+        if self.random.one_in(3) {
+            let refused = self.random.pick(&[0, 0x7FF, 0x1901, 0xFFFF]);
+            self.say(format!("P {} {:X}", letter, refused));
+            self.byte_time();
+        }
+        let length = match self.random.below(8) {
+            0 => self.random.pick(&[6250, 6399, 6400]),
+            1 => self.random.between(2048, 6400),
+            2 | 3 => self.random.between(2048, 2300),
+            _ => self.random.pick(&[2048, 2048, 2049, 3125]),
+        };
+        self.plan = Plan {
+            density,
+            length,
+            track: self.random.pick(&[0, 0, 1, 40, 255]),
+            first_sector: self.random.pick(&[1, 1, 1, 0, 254]),
+            bad_ids: self.random.pick(&[8, 8, 8, 2, 1]),
+        };
+        self.say(format!("P {} {:X}", letter, length));
+        self.lay_random_track();
+    }
+
+    fn lay_random_track(&mut self) {
+        let track = tracks::random_track(&mut self.random, self.plan);
+        self.lay(&track);
+    }
+
+    /// Writes the lines that turn the current row into this track.
+    fn lay(&mut self, track: &[u16]) {
+        let mut place = 0;
+        while place < track.len() {
+            if self.bench.current[place] == track[place] {
+                place += 1;
+                continue;
+            }
+            let cell = track[place];
+            let equal = track[place..].iter().take_while(|&&c| c == cell).count();
+            if equal >= FILL_FROM {
+                self.say(format!("F {:X} {:X} {:X}", place, equal, cell));
+                place += equal;
+            } else {
+                let end = track.len().min(place + CELLS_PER_LINE);
+                self.set_cells(place, &track[place..end]);
+                place = end;
+            }
+        }
+    }
+
+    fn set_cells(&mut self, place: usize, cells: &[u16]) {
+        let named: String = cells.iter().map(|cell| format!(" {:X}", cell)).collect();
+        self.say(format!("C {:X}{}", place, named));
+    }
+
+    fn change_rows(&mut self) {
+        self.say("U".to_string());
+    }
+
+    /// Lays a sound sector of 128 bytes with its ID from a place on, and loads TR and SR for it.
+    fn lay_sound_sector(&mut self, place: usize) {
+        let density = self.plan.density;
+        let (track, sector) = (self.plan.track, self.random.byte());
+        let mut cells = layout::id_cells(density, [track, 0, sector, 0]);
+        cells.resize(cells.len() + 11, layout::gap(density));
+        cells.extend(layout::field_cells(density, 0xFB, &self.random.bytes(128)));
+        let mut laid = self.bench.current.clone();
+        layout::put(&mut laid, place, &cells);
+        self.lay(&laid);
+        self.load(1, track);
+        self.load(2, sector);
+    }
+
+    /// The numbers of the sectors whose IDs stand on the track, good or bad.
+    fn sectors_on_track(&self) -> Vec<u8> {
+        let track = &self.bench.current;
+        let mut round = track.clone();
+        round.extend_from_slice(&track[..track.len().min(10)]);
+        (0..round.len())
+            .filter_map(|end| field::id_at_end(self.plan.density, &round[..end]))
+            .map(|id| id.sector)
+            .collect()
+    }
+
+    fn flagged(&mut self) -> u16 {
+        FLAG + u16::from(self.random.byte())
+    }
+}

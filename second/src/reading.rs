@@ -1,0 +1,102 @@
+// The commands that hand bytes to the host: Read Sector, Read Address and Read Track.
+
+use crate::activity::{Activity, AddressField, RecordRead, Window};
+use crate::crc;
+use crate::field::{self, ID_CELLS};
+use crate::machine::{ByteTime, Machine};
+
+const CRC_CELLS: usize = 2;
+const DELETED_MARK: u8 = 0xF8;
+
+impl Machine {
+    /// "Each data byte, flags ignored, goes to DR and sets DRQ; if DRQ was still on, Lost Data."
+    fn hand_over(&mut self, byte: u8) {
+        if self.data_request {
+            self.status.lost_data = true;
+        }
+        self.data = byte;
+        self.data_request = true;
+    }
+
+    /// "No data mark by the window's last cell: bit 4, end there." "Other marks there are passed
+    /// over", ID marks too.
+    pub(crate) fn go_on_awaiting_mark(&mut self, window: Window, now: &mut ByteTime) -> Activity {
+        let mut window = window;
+        window.passed.push(*now.cell);
+        if let Some(mark) = field::data_mark_at_end(self.density, &window.passed) {
+            return Activity::ReadingRecord(RecordRead {
+                command: window.command,
+                size: window.size,
+                deleted: mark == DELETED_MARK,
+                field: field::mark_bytes(self.density, mark),
+            });
+        }
+        if window.passed.len() == self.density.window() {
+            self.status.not_found = true;
+            return self.end();
+        }
+        Activity::AwaitingDataMark(window)
+    }
+
+    /// "At the second CRC cell: bit 3 if bad, bit 5 on if F8, else off, Busy off, INTRQ." DRQ is
+    /// left as it is.
+    pub(crate) fn go_on_reading_record(
+        &mut self,
+        read: RecordRead,
+        now: &mut ByteTime,
+    ) -> Activity {
+        let mut read = read;
+        let byte = field::byte_of(*now.cell);
+        read.field.push(byte);
+        let after_mark = self.cells_after_mark(&read.field);
+        if after_mark <= read.size {
+            self.hand_over(byte);
+        }
+        if after_mark < read.size + CRC_CELLS {
+            return Activity::ReadingRecord(read);
+        }
+        // A good CRC does not clear bit 3: the good match has done that already.
+        if crc::of_field(&read.field) != 0 {
+            self.status.crc_error = true;
+        }
+        self.status.deleted = read.deleted;
+        self.end_record(read.command)
+    }
+
+    /// "The six cells after the next ID mark go to DR as data bytes do; at the sixth, track to
+    /// SR, bit 3 if bad, end."
+    pub(crate) fn go_on_reading_address(
+        &mut self,
+        address: AddressField,
+        now: &mut ByteTime,
+    ) -> Activity {
+        let mut address = address;
+        let byte = field::byte_of(*now.cell);
+        address.field.push(byte);
+        self.hand_over(byte);
+        if self.cells_after_mark(&address.field) < ID_CELLS {
+            return Activity::ReadingAddress(address);
+        }
+        self.sector = address.field[address.field.len() - ID_CELLS];
+        self.status.crc_error = crc::of_field(&address.field) != 0;
+        self.end()
+    }
+
+    /// How many of a field's bytes stand behind its mark.
+    fn cells_after_mark(&self, field: &[u8]) -> usize {
+        field.len() - field::mark_length(self.density)
+    }
+
+    /// "Cells 0 to L - 1 from the first index pulse, as data bytes go; the last ends it."
+    pub(crate) fn go_on_reading_track(&mut self, now: &mut ByteTime) -> Activity {
+        self.hand_over(field::byte_of(*now.cell));
+        if self.at_last_cell() {
+            return self.end();
+        }
+        Activity::ReadingTrack
+    }
+
+    pub(crate) fn at_last_cell(&self) -> bool {
+        self.position + 1 == self.length
+    }
+}

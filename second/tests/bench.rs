@@ -1,0 +1,205 @@
+// The bench language: its example, every line, and bad scripts of every kind.
+
+use second::bench;
+
+fn printed(script: &str) -> String {
+    String::from_utf8(bench::run(script.as_bytes())).expect("the bench prints text")
+}
+
+/// What the last line of a script prints.
+fn last_line(script: &str) -> String {
+    printed(script).lines().last().unwrap_or("").to_string()
+}
+
+#[test]
+fn the_example() {
+    let script = "P 0 800\nN 9\nC 64 1FE 0 0 1 0 D2 C3\nW 2 1\nW 0 80\nG FFFF\n";
+    let expected = "P 00 | 80 00 01 00 0 0 0000\n\
+                    N | 00 00 01 00 0 0 0000\n\
+                    C\n\
+                    W 00 | 00 00 01 00 0 0 0000\n\
+                    W 00 | 01 00 01 00 0 0 0000\n\
+                    G 00 0089 0000 0000 | 10 00 01 00 0 1 0089\n";
+    assert_eq!(printed(script), expected);
+}
+
+#[test]
+fn an_empty_script_prints_nothing() {
+    assert_eq!(printed(""), "");
+    assert_eq!(printed("\n\n"), "");
+}
+
+#[test]
+fn comments_and_empty_lines_are_skipped_and_counted() {
+    assert_eq!(printed("# one\n\n   \n  # four\nU\nz\n"), "U\nerror 6\n");
+    assert_eq!(printed("U# behind\n"), "U\n");
+    assert_eq!(printed("F 0 1 12# behind\nV 0 1"), "F\nV 0012\n");
+}
+
+#[test]
+fn the_last_line_may_end_with_the_input() {
+    assert_eq!(printed("U"), "U\n");
+}
+
+#[test]
+fn spaces_may_stand_before_between_and_behind() {
+    assert_eq!(printed("   F   0  1   aB   \nV 0 1\n"), "F\nV 00AB\n");
+}
+
+#[test]
+fn numbers_have_one_to_four_digits_of_either_case() {
+    assert_eq!(last_line("F 0000 1 beEF\nV 0 1"), "V BEEF");
+    assert_eq!(printed("F 00000 1 0\n"), "error 1\n");
+    assert_eq!(printed("F 0 1 12345\n"), "error 1\n");
+}
+
+#[test]
+fn bytes_that_no_line_holds_are_errors() {
+    for bad in [
+        "\tU",
+        "U\t",
+        "U\r",
+        "u",
+        "UU",
+        "F0 1 1",
+        "F 0 1 G",
+        "F 0 1 +1",
+        "F 0 1 -1",
+        "F 0 1 0x1",
+        "\u{e9}",
+        "U \u{0}",
+        "9",
+    ] {
+        assert_eq!(printed(&format!("U\n{}\nU\n", bad)), "U\nerror 2\n");
+    }
+}
+
+#[test]
+fn bytes_that_are_no_text_are_errors_too() {
+    assert_eq!(bench::run(&[b'U', b'\n', 0xFF, b'\n']), b"U\nerror 2\n");
+}
+
+#[test]
+fn unknown_letters_are_errors() {
+    for letter in "ADEHIJLMOSTZ".chars() {
+        assert_eq!(printed(&format!("{}\n", letter)), "error 1\n");
+    }
+}
+
+#[test]
+fn missing_and_extra_numbers_are_errors() {
+    let counts = [
+        ("P", 2),
+        ("N", 1),
+        ("W", 2),
+        ("R", 1),
+        ("B", 0),
+        ("G", 1),
+        ("X", 1),
+        ("Y", 1),
+    ];
+    let rows = [("K", 1), ("F", 3), ("V", 2), ("U", 0)];
+    for (letter, count) in counts.iter().chain(rows.iter()) {
+        for given in 0..5 {
+            let line = format!("{}{}", letter, " 1".repeat(given));
+            assert_eq!(printed(&line) == "error 1\n", given != *count, "{}", line);
+        }
+    }
+}
+
+#[test]
+fn the_viewer_is_an_error_for_now() {
+    assert_eq!(printed("Q 0 0 1\n"), "error 1\n");
+}
+
+#[test]
+fn bytes_registers_lines_and_densities_have_their_limits() {
+    for bad in ["W 100 0", "W 0 100", "R 100", "N 10", "P 2 800"] {
+        assert_eq!(printed(bad), "error 1\n");
+    }
+    assert_eq!(printed("W FF FF"), "W 05 | 80 00 01 00 0 0 0000\n");
+    assert_eq!(printed("R 4"), "R 05 00 | 80 00 01 00 0 0 0000\n");
+}
+
+#[test]
+fn power_on_keeps_the_lines_and_makes_new_rows() {
+    let script = "N F\nF 0 800 1\nU\nP 1 802\nV 801 1\nU\nV 801 1\n";
+    let expected =
+        "N | 44 00 01 00 0 0 0000\nF\nU\nP 00 | 44 00 01 00 0 0 0000\nV 004E\nU\nV 004E\n";
+    assert_eq!(printed(script), expected);
+}
+
+#[test]
+fn a_refused_power_on_keeps_the_rows() {
+    let script = "P 1 900\nP 1 7FF\nV 8FF 1\nB\nP 1 1901\nP 1 FFFF\n";
+    let state = "| 80 00 01 00 0 0 0000";
+    let expected = format!(
+        "P 00 {0}\nP 01 {0}\nV 004E\nB 03 00 {0}\nP 01 {0}\nP 01 {0}\n",
+        state
+    );
+    assert_eq!(printed(script), expected);
+}
+
+#[test]
+fn byte_times_and_runs_report_pulses() {
+    assert_eq!(last_line("W 0 40\nB"), "B 00 01 | 83 00 01 00 0 0 0001");
+    assert_eq!(last_line("W 0 60\nB"), "B 00 02 | 83 00 01 00 0 0 0001");
+    assert_eq!(last_line("B"), "B 00 00 | 82 00 01 00 0 0 0001");
+    let seek = "W 3 3\nW 0 10\nG FFFF";
+    assert_eq!(
+        last_line(seek),
+        "G 00 011B 0003 0000 | 80 03 01 03 0 1 011B"
+    );
+}
+
+#[test]
+fn position_and_length_may_be_anything() {
+    assert_eq!(
+        printed("X FFFF\nR 0\n"),
+        "X | 00 00 01 00 0 0 FFFF\nR 02 00 | 00 00 01 00 0 0 FFFF\n"
+    );
+    assert_eq!(last_line("Y 7FF\nW 0 0"), "W 02 | 00 00 01 00 0 0 0000");
+    assert_eq!(
+        last_line("Y 900\nG 0"),
+        "G 03 0000 0000 0000 | 80 00 01 00 0 0 0000"
+    );
+}
+
+#[test]
+fn rows_grow_with_0000_and_have_room_for_6400() {
+    assert_eq!(last_line("K 802\nV 7FF 3"), "V 00FF 0000 0000");
+    assert_eq!(last_line("K 10\nK 12\nV F 3"), "V 00FF 0000 0000");
+    assert_eq!(last_line("K 1900"), "K");
+    assert_eq!(last_line("K 1901"), "error 1");
+    assert_eq!(last_line("K 0\nV 0 0"), "V");
+}
+
+#[test]
+fn places_past_the_row_are_errors() {
+    for bad in [
+        "F 7FF 2 0",
+        "F 800 1 0",
+        "V 7FF 2",
+        "V FFFF FFFF",
+        "C 7FF 1 2",
+        "C 800 1",
+    ] {
+        assert_eq!(printed(bad), "error 1\n");
+    }
+    for good in ["F 7FF 1 0", "F 0 0 0", "V 0 0", "C 7FE 1 2"] {
+        assert_ne!(printed(good), "error 1\n");
+    }
+}
+
+#[test]
+fn c_names_1_to_64_cells() {
+    assert_eq!(printed("C 0"), "error 1\n");
+    assert_eq!(printed(&format!("C 0{}", " 1FE".repeat(64))), "C\n");
+    assert_eq!(printed(&format!("C 0{}", " 1FE".repeat(65))), "error 1\n");
+}
+
+#[test]
+fn lines_before_an_error_stay_carried_out() {
+    assert_eq!(printed("B\nB\nB 1\nB\n").lines().count(), 3);
+    assert_eq!(last_line("B\nB\nB 1\nB\n"), "error 3");
+}

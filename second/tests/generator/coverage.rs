@@ -1,0 +1,280 @@
+// Watches scripts at work, byte time by byte time, and notes what was met.
+
+use std::collections::BTreeMap;
+
+use second::activity::Activity;
+use second::bench::Bench;
+use second::command::Command;
+use second::density::Density;
+use second::field;
+use second::lines::Lines;
+use second::machine::{Machine, SHORTEST_TRACK};
+use second::number;
+use second::script::{self, Line, Parsed};
+use second::status::StatusType;
+
+#[derive(Default)]
+pub struct Coverage {
+    met: BTreeMap<String, usize>,
+}
+
+/// What a byte time began with.
+struct Before {
+    name: &'static str,
+    /// Cells that have passed in the window after an ID.
+    in_window: usize,
+    position: u16,
+    data: u8,
+    data_request: bool,
+    interrupt_request: bool,
+    crc_error: bool,
+    lost_data: bool,
+    sector: u8,
+    ready_seen: bool,
+}
+
+impl Before {
+    fn of(machine: &Machine) -> Before {
+        Before {
+            name: machine.activity.name(),
+            in_window: match &machine.activity {
+                Activity::AwaitingDataMark(window) => window.passed.len(),
+                _ => 0,
+            },
+            position: machine.position,
+            data: machine.data,
+            data_request: machine.data_request,
+            interrupt_request: machine.interrupt_request,
+            crc_error: machine.status.crc_error,
+            lost_data: machine.status.lost_data,
+            sector: machine.sector,
+            ready_seen: machine.ready_seen,
+        }
+    }
+}
+
+fn density_name(density: Density) -> &'static str {
+    match density {
+        Density::Fm => "FM",
+        Density::Mfm => "MFM",
+    }
+}
+
+impl Coverage {
+    pub fn has(&self, key: &str) -> bool {
+        self.met.contains_key(key)
+    }
+
+    fn note(&mut self, key: String) {
+        *self.met.entry(key).or_insert(0) += 1;
+    }
+
+    /// Watches a script work this bench.
+    pub fn watch_script(&mut self, bench: Bench, text: &str) {
+        let mut bench = bench;
+        for bytes in text.lines().map(str::as_bytes) {
+            match script::parse(bytes) {
+                Parsed::Empty => {}
+                Parsed::Line(line) => self.watch_line(&mut bench, &line),
+                Parsed::Bad => self.note("bad line".to_string()),
+            }
+        }
+    }
+
+    fn watch_line(&mut self, bench: &mut Bench, line: &Line) {
+        self.note_call(bench, line);
+        let printed = match (line.letter, line.numbers.as_slice()) {
+            (b'G', &[limit]) => self.watch_run(bench, limit),
+            (b'B', []) => self.watch_run(bench, 1),
+            _ => bench.carry_out(line).unwrap_or_else(|| "error".to_string()),
+        };
+        let letter = char::from(line.letter);
+        if "PWRBGQ".contains(letter) {
+            let number = printed.get(2..4).unwrap_or("bad");
+            self.note(format!("{} {}", letter, number));
+        }
+        self.note_status(&bench.machine, bench.lines);
+    }
+
+    /// A run, made of single byte times so that each can be watched. What it gives back begins
+    /// as the run's own line does.
+    fn watch_run(&mut self, bench: &mut Bench, limit: u16) -> String {
+        let nothing = bench
+            .machine
+            .clone()
+            .run(&mut bench.current, bench.lines, 0);
+        let mut number = nothing.number;
+        let mut passed = 0;
+        while number == number::DONE && passed < limit {
+            let before = Before::of(&bench.machine);
+            let fallback = Machine::power_on(SHORTEST_TRACK, Density::Fm).machine;
+            let machine = std::mem::replace(&mut bench.machine, fallback);
+            let answer = machine.byte_time(&mut bench.current, bench.lines);
+            bench.machine = answer.machine;
+            number = answer.number;
+            if number == number::DONE {
+                passed += 1;
+                self.note_byte_time(&before, bench);
+                if bench.machine.data_request || bench.machine.interrupt_request {
+                    break;
+                }
+            } else if passed > 0 {
+                self.note("run stopped by 4 after some byte times".to_string());
+            }
+        }
+        format!("G {:02X}", number)
+    }
+
+    fn note_call(&mut self, bench: &Bench, line: &Line) {
+        let machine = &bench.machine;
+        match (line.letter, line.numbers.as_slice()) {
+            (b'W', &[0, byte]) if machine.is_in_range() => self.note_command(bench, byte as u8),
+            (b'G', &[0]) => self.note("run with limit 0".to_string()),
+            (b'R', &[3]) if machine.data_request => self.note("DRQ served by a read".to_string()),
+            (b'W', &[3, _]) if machine.data_request => {
+                self.note("DRQ served by a load".to_string());
+            }
+            _ => {}
+        }
+    }
+
+    fn note_command(&mut self, bench: &Bench, byte: u8) {
+        let machine = &bench.machine;
+        let activity = machine.activity.name();
+        let density = density_name(machine.density);
+        match Command::decode(byte) {
+            Some(_) if (0xD0..=0xDF).contains(&byte) => {
+                self.note(format!("forced {:02X} in {}", byte, activity));
+                self.note(format!("command {:02X} {}", byte, density));
+            }
+            Some(command) if !machine.is_busy() => {
+                self.note(format!("command {:02X}", byte));
+                self.note(format!("{:?} {}", command.name, density));
+                self.note_matches(bench, command);
+            }
+            None if !machine.is_busy() => self.note(format!("no command {:02X}", byte)),
+            _ => {}
+        }
+    }
+
+    /// Several IDs of the wanted track and sector on the ring.
+    fn note_matches(&mut self, bench: &Bench, command: Command) {
+        let machine = &bench.machine;
+        let matching = (10..=bench.current.len())
+            .filter_map(|end| field::id_at_end(machine.density, &bench.current[..end]))
+            .filter(|id| id.track == machine.track && id.sector == machine.sector)
+            .count();
+        if matching > 1 {
+            self.note(format!("several matches for {:?}", command.name));
+        }
+    }
+
+    fn note_status(&mut self, machine: &Machine, lines: Lines) {
+        let letter = match machine.status.status_type {
+            StatusType::TypeOne => "I",
+            StatusType::Transfer => "II",
+        };
+        let byte = machine.status_byte(lines);
+        for place in (0..8).filter(|place| byte >> place & 1 == 1) {
+            self.note(format!("status {} bit {}", letter, place));
+        }
+    }
+
+    fn note_byte_time(&mut self, before: &Before, bench: &Bench) {
+        let machine = &bench.machine;
+        let name = machine.activity.name();
+        if before.name != name {
+            self.note(format!("{} to {}", before.name, name));
+            self.note_change(before, bench);
+        }
+        if before.name != "Idle" && machine.position == 0 {
+            self.note(format!("ring's end in {}", before.name));
+        }
+        if machine.status.lost_data && !before.lost_data {
+            self.note(format!("Lost Data in {}", before.name));
+        }
+        if before.name == "Searching" {
+            self.note_search(before, machine);
+        }
+        if before.name == "Idle" && machine.interrupt_request && !before.interrupt_request {
+            self.note_condition(before, bench.lines.ready);
+        }
+        if name == "WritingTrack" || before.name == "WritingTrack" {
+            self.note_format_byte(before, machine);
+        }
+    }
+
+    fn note_search(&mut self, before: &Before, machine: &Machine) {
+        if machine.status.crc_error && !before.crc_error {
+            self.note("a match with a bad CRC".to_string());
+        }
+        if !machine.status.crc_error && before.crc_error {
+            self.note("a good match after a bad one".to_string());
+        }
+    }
+
+    fn note_condition(&mut self, before: &Before, ready: bool) {
+        match (before.position, before.ready_seen, ready) {
+            (0, _, _) => self.note("INTRQ at an index pulse".to_string()),
+            (_, false, true) => self.note("INTRQ as Ready comes on".to_string()),
+            (_, true, false) => self.note("INTRQ as Ready goes off".to_string()),
+            _ => {}
+        }
+    }
+
+    fn note_format_byte(&mut self, before: &Before, machine: &Machine) {
+        if before.data_request || before.data < 0xF4 {
+            return;
+        }
+        let density = density_name(machine.density);
+        self.note(format!("formatted {:02X} {}", before.data, density));
+        if machine.position == 0 && before.data == 0xF7 {
+            self.note(format!("F7 at the last cell {}", density));
+        }
+    }
+
+    fn note_change(&mut self, before: &Before, bench: &Bench) {
+        let machine = &bench.machine;
+        let density = density_name(machine.density);
+        match &machine.activity {
+            Activity::ReadingRecord(read) => {
+                self.note(format!("read {} {}", read.size, density));
+                if before.in_window + 1 == machine.density.window() {
+                    self.note(format!("mark at the window's end {}", density));
+                }
+            }
+            Activity::WritingRecord(write) => {
+                self.note(format!("write {} {}", write.size, density))
+            }
+            Activity::Searching(_) if before.sector == 255 && machine.sector == 0 => {
+                self.note("SR from 255 to 0".to_string());
+            }
+            Activity::Idle => self.note_end(before, bench),
+            _ => {}
+        }
+    }
+
+    fn note_end(&mut self, before: &Before, bench: &Bench) {
+        let machine = &bench.machine;
+        let density = density_name(machine.density);
+        if machine.status.not_found {
+            self.note(format!("not found in {} {}", before.name, density));
+        }
+        if before.name == "ReadingRecord" && machine.status.crc_error {
+            self.note(format!("bad data CRC {}", density));
+        }
+        if before.name == "AwaitingDataMark" && mark_is_next(bench) {
+            self.note(format!("mark past the window's end {}", density));
+        }
+    }
+}
+
+/// Whether the next cell to pass completes a data mark.
+fn mark_is_next(bench: &Bench) -> bool {
+    let length = bench.current.len();
+    let next = usize::from(bench.machine.position);
+    let four: Vec<u16> = (0..4)
+        .map(|offset| bench.current[(next + length - 3 + offset) % length])
+        .collect();
+    field::data_mark_at_end(bench.machine.density, &four).is_some()
+}

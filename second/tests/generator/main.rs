@@ -1,0 +1,184 @@
+// What the generator's scripts are like, and that together they meet everything they should.
+
+mod coverage;
+
+use coverage::Coverage;
+use second::bench::{self, Bench};
+use second::command::Command;
+use second::generate;
+
+const SEEDS: u64 = 300;
+const ACTIVITIES: [&str; 11] = [
+    "Idle",
+    "Stepping",
+    "Settling",
+    "Searching",
+    "ReadingAddress",
+    "AwaitingDataMark",
+    "ReadingRecord",
+    "WritingRecord",
+    "AwaitingIndex",
+    "ReadingTrack",
+    "WritingTrack",
+];
+const COMMANDS: [&str; 10] = [
+    "Restore",
+    "Seek",
+    "Step",
+    "StepIn",
+    "StepOut",
+    "ReadSector",
+    "WriteSector",
+    "ReadAddress",
+    "ReadTrack",
+    "WriteTrack",
+];
+/// Calls with the numbers that they answered.
+const ANSWERS: [&str; 19] = [
+    "P 00", "P 01", "W 00", "W 02", "W 05", "W 06", "W 07", "R 00", "R 02", "R 05", "B 00", "B 02",
+    "B 03", "B 04", "G 00", "G 02", "G 03", "G 04", "bad line",
+];
+const EVENTS: [&str; 33] = [
+    "run with limit 0",
+    "run stopped by 4 after some byte times",
+    "DRQ served by a read",
+    "DRQ served by a load",
+    "several matches for ReadSector",
+    "several matches for WriteSector",
+    "a match with a bad CRC",
+    "a good match after a bad one",
+    "INTRQ at an index pulse",
+    "INTRQ as Ready comes on",
+    "INTRQ as Ready goes off",
+    "SR from 255 to 0",
+    "Lost Data in ReadingAddress",
+    "Lost Data in ReadingRecord",
+    "Lost Data in WritingRecord",
+    "Lost Data in ReadingTrack",
+    "Lost Data in WritingTrack",
+    "Lost Data in AwaitingIndex",
+    "ring's end in Searching",
+    "ring's end in ReadingAddress",
+    "ring's end in AwaitingDataMark",
+    "ring's end in ReadingRecord",
+    "ring's end in WritingRecord",
+    "ring's end in Stepping",
+    "ring's end in Settling",
+    "Stepping to Settling",
+    "Searching to Idle",
+    "ReadingRecord to Searching",
+    "WritingRecord to Searching",
+    "WritingRecord to Idle",
+    "ReadingAddress to Idle",
+    "ReadingTrack to Idle",
+    "WritingTrack to Idle",
+];
+/// Events that must be met in each density.
+const DENSITY_EVENTS: [&str; 15] = [
+    "read 128",
+    "read 256",
+    "read 512",
+    "read 1024",
+    "write 128",
+    "write 256",
+    "write 512",
+    "write 1024",
+    "mark at the window's end",
+    "mark past the window's end",
+    "not found in AwaitingDataMark",
+    "not found in Searching",
+    "not found in Stepping",
+    "bad data CRC",
+    "F7 at the last cell",
+];
+
+fn wanted() -> Vec<String> {
+    let mut keys: Vec<String> = Vec::new();
+    keys.extend(ANSWERS.iter().chain(&EVENTS).map(|key| key.to_string()));
+    for density in ["FM", "MFM"] {
+        let both = DENSITY_EVENTS.iter().chain(&COMMANDS);
+        keys.extend(both.map(|key| format!("{} {}", key, density)));
+        keys.extend((0xF4..=0xFFu8).map(|byte| format!("formatted {:02X} {}", byte, density)));
+    }
+    for byte in (0..=255u8).filter(|byte| !(0xD0..=0xDF).contains(byte)) {
+        let kind = match Command::decode(byte) {
+            Some(_) => "command",
+            None => "no command",
+        };
+        keys.push(format!("{} {:02X}", kind, byte));
+    }
+    for byte in 0xD0..=0xDFu8 {
+        keys.extend(
+            ACTIVITIES
+                .iter()
+                .map(|name| format!("forced {:02X} in {}", byte, name)),
+        );
+    }
+    for place in 0..8 {
+        keys.extend(
+            ["I", "II"]
+                .iter()
+                .map(|kind| format!("status {} bit {}", kind, place)),
+        );
+    }
+    keys
+}
+
+#[test]
+fn together_the_scripts_meet_everything_they_should() {
+    let mut coverage = Coverage::default();
+    for seed in 0..SEEDS {
+        coverage.watch_script(Bench::new(), &generate::script(seed));
+    }
+    let missing: Vec<String> = wanted()
+        .into_iter()
+        .filter(|key| !coverage.has(key))
+        .collect();
+    assert_eq!(missing, Vec::<String>::new());
+}
+
+#[test]
+fn with_the_viewer_the_scripts_meet_its_answers() {
+    let mut coverage = Coverage::default();
+    for seed in 0..60 {
+        let script = generate::script_on(seed, Bench::with_viewer());
+        coverage.watch_script(Bench::with_viewer(), &script);
+    }
+    for answer in ["Q 00", "Q 01", "Q 04", "Q 0B"] {
+        assert!(coverage.has(answer), "{}", answer);
+    }
+}
+
+#[test]
+fn a_seed_always_gives_the_same_script() {
+    assert_eq!(generate::script(7), generate::script(7));
+    assert_ne!(generate::script(7), generate::script(8));
+}
+
+#[test]
+fn scripts_have_some_hundred_to_some_thousand_lines() {
+    for seed in 0..100 {
+        let lines = generate::script(seed).lines().count();
+        assert!(
+            (300..12_000).contains(&lines),
+            "seed {} has {}",
+            seed,
+            lines
+        );
+    }
+}
+
+#[test]
+fn only_a_last_bad_line_stops_a_script() {
+    for seed in 0..100 {
+        let script = generate::script(seed);
+        let output = bench::run(script.as_bytes());
+        let text = String::from_utf8_lossy(&output);
+        let errors = text
+            .lines()
+            .filter(|line| line.starts_with("error"))
+            .count();
+        assert_eq!(errors == 1, script.ends_with("\nU\n"), "seed {}", seed);
+        assert!(errors <= 1);
+    }
+}
