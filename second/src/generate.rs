@@ -5,6 +5,7 @@ mod forcing;
 mod formatting;
 mod refusing;
 mod serving;
+mod timing;
 mod viewing;
 
 use crate::bench::Bench;
@@ -46,7 +47,30 @@ const BAD_LINES: [&str; 16] = [
     "G 1G",
 ];
 
-pub struct Generator {
+/// A sound sector.
+#[derive(Clone, Copy)]
+struct Sector {
+    number: u8,
+    /// The length code.
+    code: u8,
+    mark: u8,
+    /// Cells from the ID's last one to the mark byte.
+    mark_at: usize,
+}
+
+impl Sector {
+    /// 128 bytes, its mark well inside the window.
+    fn short(number: u8) -> Sector {
+        Sector {
+            number,
+            code: 0,
+            mark: 0xFB,
+            mark_at: 15,
+        }
+    }
+}
+
+struct Generator {
     random: Random,
     bench: Bench,
     script: String,
@@ -67,6 +91,7 @@ pub fn script_on(seed: u64, bench: Bench) -> String {
     let mut generator = Generator::new(seed, bench);
     let enough = generator.random.between(300, 2000);
     generator.begin();
+    generator.take_turns(seed);
     while generator.line_count < enough {
         generator.scene();
     }
@@ -102,17 +127,43 @@ impl Generator {
         }
     }
 
+    /// What some hundred seeds in a row must meet completely: each Type I command, each sector
+    /// command, each length read and written, each byte that is no command, and each Force
+    /// Interrupt in each activity.
+    fn take_turns(&mut self, seed: u64) {
+        let no_commands = refusing::no_commands();
+        self.load(0, in_turn(&no_commands, seed));
+        let type_one: Vec<u8> = (0x00..0x80).collect();
+        self.stepping_scene(in_turn(&type_one, seed));
+        let sector_commands = commands::sector_commands();
+        self.sector_scene(in_turn(&sector_commands, seed));
+        self.record_scene(in_turn(&timing::RECORDS, seed));
+        self.forcing_scene(in_turn(&forcing::pairs(), seed));
+    }
+
     fn scene(&mut self) {
-        match self.random.below(25) {
-            0..=3 => self.stepping_scene(),
-            4..=9 => self.sector_scene(),
+        match self.random.below(30) {
+            0..=3 => {
+                let byte = self.random.below(0x80) as u8;
+                self.stepping_scene(byte);
+            }
+            4..=9 => {
+                let byte = self.random.pick(&commands::sector_commands());
+                self.sector_scene(byte);
+            }
             10..=11 => self.address_scene(),
             12 => self.read_track_scene(),
             13 => self.write_track_scene(),
-            14..=19 => self.forcing_scene(),
+            14..=19 => {
+                let pair = self.random.pick(&forcing::pairs());
+                self.forcing_scene(pair);
+            }
             20 => self.waiting_scene(),
             21..=22 => self.refusing_scene(),
             23 => self.viewing_scene(),
+            24..=26 => self.beginning_scene(),
+            27 => self.chain_scene(),
+            28 => self.late_write_scene(),
             _ if self.random.one_in(4) => self.power_on(),
             _ => self.comment(),
         }
@@ -134,7 +185,7 @@ impl Generator {
     fn say(&mut self, text: String) {
         let line = match self.random.below(40) {
             0 => format!("  {}  ", text.replace(' ', "   ")),
-            1 => format!("{} # so", text),
+            1 => format!("{} # a comment", text),
             _ => text,
         };
         if let Parsed::Line(parsed) = script::parse(line.as_bytes()) {
@@ -268,18 +319,24 @@ impl Generator {
         self.say("U".to_string());
     }
 
-    /// Lays a sound sector of 128 bytes with its ID from a place on, and loads TR and SR for it.
-    fn lay_sound_sector(&mut self, place: usize) {
+    /// Lays a sector with a good ID and a good data CRC from a place on.
+    fn lay_sector(&mut self, place: usize, sector: Sector) {
         let density = self.plan.density;
-        let (track, sector) = (self.plan.track, self.random.byte());
-        let mut cells = layout::id_cells(density, [track, 0, sector, 0]);
-        cells.resize(cells.len() + 11, layout::gap(density));
-        cells.extend(layout::field_cells(density, 0xFB, &self.random.bytes(128)));
+        let bytes = [self.plan.track, 0, sector.number, sector.code];
+        let data = self.random.bytes(128 << sector.code);
+        let mut cells = layout::id_cells(density, bytes);
+        let gap = sector.mark_at - field::mark_length(density);
+        cells.resize(cells.len() + gap, layout::gap(density));
+        cells.extend(layout::field_cells(density, sector.mark, &data));
         let mut laid = self.bench.current.clone();
         layout::put(&mut laid, place, &cells);
         self.lay(&laid);
-        self.load(1, track);
-        self.load(2, sector);
+    }
+
+    /// Loads TR and SR for a sector of the track.
+    fn ask_for(&mut self, number: u8) {
+        self.load(1, self.plan.track);
+        self.load(2, number);
     }
 
     /// The numbers of the sectors whose IDs stand on the track, good or bad.
@@ -296,4 +353,9 @@ impl Generator {
     fn flagged(&mut self) -> u16 {
         FLAG + u16::from(self.random.byte())
     }
+}
+
+/// The seed's choice: seeds in a row go through all of them.
+fn in_turn<T: Copy>(choices: &[T], seed: u64) -> T {
+    choices[(seed % choices.len() as u64) as usize]
 }

@@ -1,4 +1,9 @@
 // The second implementation of the WD1793 model, written from the documents alone.
+//
+// The controller is `machine` with the files of its commands (`positioning`, `search`, `reading`,
+// `writing`); it decides what passes by looking back at lists of cells (`field`). `bench` works it
+// from a script, `generate` makes scripts from seeds, and `compare` holds another program to it.
+// `picture`, `viewer` and `list` are document 01's pictures and viewer, `vectors` its CRC vectors.
 
 #![forbid(unsafe_code)]
 

@@ -25,7 +25,7 @@ pub fn random_track(random: &mut Random, plan: Plan) -> Vec<u16> {
     let mut laid = 0;
     let mut sector = plan.first_sector;
     loop {
-        let code = random.pick(&[0, 0, 0, 0, 1, 1, 2, 3]);
+        let code = random.pick(&[0, 0, 0, 0, 1, 1, 2, 2, 3]);
         let piece = random_sector(random, plan, sector, code);
         if laid + piece.len() > plan.length {
             break;
@@ -75,7 +75,15 @@ fn random_id(random: &mut Random, plan: Plan, sector: u8, code: u8) -> Vec<u16> 
     if random.one_in(16) {
         cells[last - random.below(6)] += FLAG;
     }
+    spoil_mark(random, plan.density, &mut cells);
     cells
+}
+
+/// Now and then one cell of a field's mark has the wrong flag, and so it is no mark.
+fn spoil_mark(random: &mut Random, density: Density, cells: &mut [u16]) {
+    if random.one_in(12) {
+        cells[random.below(field::mark_length(density))] ^= FLAG;
+    }
 }
 
 /// The cells between an ID and its data mark, so many that the mark byte stands at some cell
@@ -110,6 +118,7 @@ fn random_data(random: &mut Random, density: Density, mark: u8, data: &[u8]) -> 
         let place = random.between(marks, cells.len() - 1);
         cells[place] += FLAG;
     }
+    spoil_mark(random, density, &mut cells);
     cells
 }
 

@@ -48,3 +48,12 @@ unnamed named x none = by (hasKey named x) refl
     by : (b : Bool) → hasKey named x ≡ b → hasKey named x ≡ false
     by true e = absurd (none (hit named x (subst T (sym e) tt)))
     by false e = e
+
+-- an arm that names values of an enum whose variants hold nothing: `at` gives back the value of a variant's number
+pub named-arm :
+    {A E : Type 0} (number : E → ℕ) (at : ℕ → E) → ((e : E) → at (number e) ≡ e)
+    → (f : E → A) {answer : A} (e : E) (named : List E)
+    → Gives (λ n. f (at n)) answer (map number named)
+    → OneOf (map number named) (number e)
+    → answer ≡ f e
+named-arm number at back f e named each which = keys (λ n. f (at n)) (map number named) each which ∙ ap f (back e)

@@ -17,6 +17,9 @@ pub both : (a b : Bool) → (a && b) ≡ true → (a ≡ true) × (b ≡ true)
 both true b e = (refl, e)
 both false b e = never (cc)
 
+pub all : {a b : Bool} → a ≡ true → b ≡ true → (a && b) ≡ true
+all p q = simp (p, q)
+
 -- a contract that is an equation leaves one answer
 pub determined : {A : Type 0} {x y d : A} → x ≡ d → y ≡ d → x ≡ y
 determined p q = p ∙ sym q

@@ -1,4 +1,4 @@
--- The bits of a command byte: their places bear the data sheet's letters.
+-- The bits of a command byte, by their places; T is the track update, which the data sheets write u.
 -- Assumes nothing.
 use Prim.Native.Nat.{ℕ, _/_, _%_, _^_}
 use mathlib.Core.Bool.{Bool}

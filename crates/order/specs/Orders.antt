@@ -40,7 +40,8 @@ jobOf ReadTrack = job.ReadTrack
 jobOf WriteTrack = job.WriteTrack
 jobOf ForceInterrupt = job.Nothing
 
--- Step-in goes in, Step-out goes out, and Step goes as the last step did; every other command keeps that direction.
+-- The direction of the one step: Step-in goes in, Step-out goes out, Step as the last step did. The other commands make no
+-- such step; a Seek's direction is found as it steps.
 unfoldable pub inwardOf : Command → Bool → Bool
 inwardOf Restore last = last
 inwardOf Seek last = last

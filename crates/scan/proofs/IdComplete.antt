@@ -19,7 +19,7 @@ use Rattle.scan.proofs.IdParts.{gathered, gathered-passed, whole}
 use Rattle.scan.specs.Streams.{IdEnds}
 
 -- an unflagged cell ends no mark behind no flagged A1
-plain-gap : (mfm : Bool) (cell : ℕ) → cell < 256 → passedOf mfm cell 0 ≡ Passed.Gap 0
+pub plain-gap : (mfm : Bool) (cell : ℕ) → cell < 256 → passedOf mfm cell 0 ≡ Passed.Gap 0
 unfolding passedOf leadOf carriesMark
 plain-gap false cell h =
     simp (ne-eqb (cell / 256) 1 (omega arith)) (ap Passed.Gap (unflagged-run cell 0 (lt-ltb cell 256 h)))

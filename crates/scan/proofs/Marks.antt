@@ -179,7 +179,7 @@ mfm cells n b = (there, back)
         three (suc (suc zero)) l = z
         three (suc (suc (suc i))) l = absurd (omega arith)
 
--- "FM: a mark is one flagged cell. MFM: a mark is three flagged A1 cells, then an unflagged byte."
+-- "FM: a mark is one flagged cell; .. MFM: a mark is three flagged A1 cells, then an unflagged byte; .."
 pub marks : (density : Bool) (cells : ℕ → ℕ) (n b : ℕ) → (passedAt density cells n ≡ Mark b) ↔ MarkEnds density cells n b
 marks false = fm
 marks true = mfm

@@ -21,7 +21,7 @@ unflagged cell = ltb cell 256
 abbrev pub sync : ℕ
 sync = 0x1A1
 
--- "FM: a mark is one flagged cell. MFM: a mark is three flagged A1 cells, then an unflagged byte."
+-- "FM: a mark is one flagged cell; .. MFM: a mark is three flagged A1 cells, then an unflagged byte; .."
 -- So many flagged A1 cells stand before a mark's byte.
 unfoldable pub leadOf : Bool → ℕ
 leadOf mfm = cond mfm 3 0
@@ -39,7 +39,7 @@ runOf cell run = cond (eqb cell sync) (cond (ltb run 3) (run + 1) 3) 0
 unfoldable pub passedOf : Bool → ℕ → ℕ → Passed
 passedOf mfm cell run = cond (leb (leadOf mfm) run && carriesMark mfm cell) (Mark (byteOf cell)) (Gap (runOf cell run))
 
--- "FM: CRC starts with it. MFM: CRC covers the A1s."
+-- "FM: .. CRC starts with it. MFM: .. CRC covers the A1s."
 unfoldable pub markBytes : Bool → ℕ → List ℕ
 markBytes mfm b = cond mfm (0xA1 ∷ 0xA1 ∷ 0xA1 ∷ b ∷ []) (b ∷ [])
 

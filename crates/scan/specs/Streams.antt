@@ -18,7 +18,7 @@ use Rattle.scan.specs.Marks.{byteOf, sync, leadOf, passedOf}
 use Rattle.scan.specs.DataMarks.{soughtOf}
 use Rattle.scan.specs.Ids.{heardOf}
 
--- "FM: a mark is one flagged cell. MFM: a mark is three flagged A1 cells, then an unflagged byte": a mark with the byte b
+-- "FM: a mark is one flagged cell; .. MFM: a mark is three flagged A1 cells, then an unflagged byte": a mark with the byte b
 -- stands in the stream from cell a on.
 unfoldable pub MarkAt : Bool → (ℕ → ℕ) → ℕ → ℕ → Type 0
 MarkAt false cells a b = (b < 256) × (cells a ≡ b + 256)

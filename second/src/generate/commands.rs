@@ -1,12 +1,20 @@
 // Scenes of single commands: Type I, the sector commands, Read Address and the track commands.
 
 use super::serving::Host;
-use super::{Generator, HEAD_LOADED, NO_LIMIT, PROTECT, READY, TRACK_0};
+use super::{Generator, Sector, HEAD_LOADED, NO_LIMIT, PROTECT, READY, TRACK_0};
+use crate::command::Command;
 
 /// Rounds after which a scene ends its command by force.
 const MOST_ROUNDS: usize = 3000;
 /// The longest track whose every cell a scene reads or writes without a second thought.
 const SHORT_TRACK: usize = 2300;
+
+/// Read Sector and Write Sector with all of their bits.
+pub fn sector_commands() -> Vec<u8> {
+    (0x80..=0xBF)
+        .filter(|&byte| Command::decode(byte).is_some())
+        .collect()
+}
 
 impl Generator {
     /// Drive lines for a command of Types II and III: mostly such that it can do its work.
@@ -46,27 +54,27 @@ impl Generator {
         self.load(2, sector);
     }
 
-    /// Read Sector and Write Sector with any of their bits.
-    pub fn sector_scene(&mut self) {
+    /// Read Sector or Write Sector.
+    pub fn sector_scene(&mut self, byte: u8) {
         self.choose_transfer_wires();
         self.choose_sector();
         self.choose_head();
-        let mut byte = self.random.pick(&[0x80, 0x80, 0xA0]);
-        if byte == 0xA0 {
-            byte |= self.random.pick(&[0x00, 0x01]);
-        }
-        byte |= self.random.pick(&[0x00, 0x00, 0x00, 0x02, 0x08, 0x0A]);
-        byte |= self.random.pick(&[0x00, 0x00, 0x04]);
-        byte |= self.random.pick(&[0x00, 0x00, 0x10]);
         self.load(0, byte);
         let host = self.random_host();
         self.serve(host, MOST_ROUNDS);
         self.end_command();
     }
 
+    /// Read Address, at times of an ID that stands over the ring's end.
     pub fn address_scene(&mut self) {
         self.choose_transfer_wires();
-        self.choose_head();
+        if self.random.one_in(3) {
+            let place = self.plan.length - self.random.between(1, 9);
+            self.lay_sector(place, Sector::short(1));
+            self.put_head(place - 1);
+        } else {
+            self.choose_head();
+        }
         let byte = self.random.pick(&[0xC0, 0xC0, 0xC4]);
         self.load(0, byte);
         let host = self.random_host();
@@ -93,7 +101,7 @@ impl Generator {
         let near_index = self.plan.length - self.random.between(0, 6);
         self.put_head(near_index);
         self.load(0, byte);
-        let whole = self.plan.length <= SHORT_TRACK && self.random.one_in(2);
+        let whole = self.plan.length <= SHORT_TRACK && !self.random.one_in(3);
         let rounds = if whole {
             MOST_ROUNDS
         } else {
@@ -107,8 +115,8 @@ impl Generator {
         self.end_command();
     }
 
-    /// Any Type I command, from some tracks off its aim, while the lines change.
-    pub fn stepping_scene(&mut self) {
+    /// A Type I command, from some tracks off its aim, while the lines change.
+    pub fn stepping_scene(&mut self, byte: u8) {
         let aim = if self.random.one_in(3) {
             self.random.byte()
         } else {
@@ -121,7 +129,6 @@ impl Generator {
             .random
             .pick(&[0, READY, READY | HEAD_LOADED, 0xF, 0xD, 0xC]);
         self.set_wires(wires);
-        let byte = self.random.below(0x80) as u8;
         self.load(0, byte);
         for _ in 0..40 {
             if !self.is_busy() {

@@ -1,6 +1,6 @@
 // Scenes of Force Interrupt: in every activity, with every nibble, and the wait that follows.
 
-use super::{Generator, HEAD_LOADED, READY};
+use super::{Generator, Sector, HEAD_LOADED, READY};
 use crate::activity::Activity;
 use crate::random::Random;
 
@@ -18,20 +18,48 @@ const AIMS: [(&str, &[u8]); 11] = [
     ("ReadingTrack", &[0xE0]),
     ("WritingTrack", &[0xF0]),
 ];
+
+/// An activity and the Force Interrupt that ends it.
+#[derive(Clone, Copy)]
+pub struct Pair {
+    aim: &'static str,
+    commands: &'static [u8],
+    byte: u8,
+}
+
+/// Every Force Interrupt in every activity.
+pub fn pairs() -> Vec<Pair> {
+    let mut all = Vec::new();
+    for byte in 0xD0..=0xDF {
+        all.extend(AIMS.iter().map(|&(aim, commands)| Pair {
+            aim,
+            commands,
+            byte,
+        }));
+    }
+    all
+}
+
 /// Rounds after which a scene gives its aim up.
 const MOST_ROUNDS: usize = 600;
 
 impl Generator {
-    /// Leads the machine into some activity, then forces an end with any nibble.
-    pub fn forcing_scene(&mut self) {
-        let (aim, commands) = self.random.pick(&AIMS);
+    /// Leads the machine into an activity, then forces an end.
+    pub fn forcing_scene(&mut self, pair: Pair) {
+        let Pair {
+            aim,
+            commands,
+            byte,
+        } = pair;
         let place = if self.random.one_in(4) {
             // Over the ring's end.
             self.plan.length - self.random.between(1, 40)
         } else {
             self.random.below(self.plan.length)
         };
-        self.lay_sound_sector(place);
+        let number = self.random.byte();
+        self.lay_sector(place, Sector::short(number));
+        self.ask_for(number);
         self.load(3, self.plan.track.wrapping_add(2));
         self.set_wires(READY | HEAD_LOADED);
         if commands.is_empty() {
@@ -40,7 +68,7 @@ impl Generator {
             self.begin_towards(aim, commands, place);
         }
         self.lead_to(aim);
-        self.force();
+        self.force(byte);
     }
 
     fn begin_towards(&mut self, aim: &str, commands: &[u8], place: usize) {
@@ -71,9 +99,8 @@ impl Generator {
     }
 
     /// Force Interrupt, then what its conditions wait for: pulses and Ready edges.
-    fn force(&mut self) {
-        let nibble = self.random.below(16) as u8;
-        self.load(0, 0xD0 | nibble);
+    fn force(&mut self, byte: u8) {
+        self.load(0, byte);
         for _ in 0..self.random.between(2, 8) {
             self.while_waiting();
         }
@@ -82,7 +109,8 @@ impl Generator {
     /// An idle machine under the conditions of some Force Interrupt.
     pub fn waiting_scene(&mut self) {
         for _ in 0..self.random.between(1, 4) {
-            self.force();
+            let byte = self.random.between(0xD0, 0xDF) as u8;
+            self.force(byte);
         }
     }
 

@@ -10,7 +10,7 @@ impl Generator {
     /// 200 cells calls for, or any control byte.
     pub fn next_format_byte(&mut self) -> u8 {
         let position = usize::from(self.bench.machine.position);
-        if position + 1 == self.plan.length && self.random.one_in(2) {
+        if position + 1 == self.plan.length && !self.random.one_in(4) {
             // "F7 at the last cell writes only the high byte."
             return CRC_BYTE;
         }

@@ -5,6 +5,13 @@ use crate::command::Command;
 use crate::field::LARGEST_CELL;
 use crate::machine::LONGEST_TRACK;
 
+/// The 58 bytes that are no commands.
+pub fn no_commands() -> Vec<u8> {
+    (0x00..=0xFF)
+        .filter(|&byte| Command::decode(byte).is_none())
+        .collect()
+}
+
 impl Generator {
     pub fn refusing_scene(&mut self) {
         for _ in 0..self.random.between(1, 4) {
@@ -121,10 +128,7 @@ impl Generator {
             // Of the command bytes D0-DF alone are taken; this leaves none of them.
             self.load(register, byte & 0x8F);
         } else {
-            let refused: Vec<u8> = (0..=255)
-                .filter(|&byte| Command::decode(byte).is_none())
-                .collect();
-            let byte = self.random.pick(&refused);
+            let byte = self.random.pick(&no_commands());
             self.load(0, byte);
         }
     }

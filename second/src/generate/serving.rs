@@ -43,11 +43,19 @@ impl Generator {
 
     fn host_is_awake(&mut self, host: Host) -> bool {
         match host {
+            _ if self.writes_last_cell() && self.random.one_in(3) => false,
             Host::Prompt => true,
             Host::Sleepy => !self.random.one_in(12),
             Host::Slow => self.random.one_in(6),
             Host::Absent => false,
         }
+    }
+
+    /// The last cell of Write Track: DRQ goes off there even where nobody has served it.
+    fn writes_last_cell(&self) -> bool {
+        let machine = &self.bench.machine;
+        matches!(machine.activity, Activity::WritingTrack(_))
+            && usize::from(machine.position) + 1 == self.plan.length
     }
 
     /// Reading as well as loading DR turns DRQ off; now and then the host does the wrong one.

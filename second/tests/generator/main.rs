@@ -157,7 +157,7 @@ fn a_seed_always_gives_the_same_script() {
 
 #[test]
 fn scripts_have_some_hundred_to_some_thousand_lines() {
-    for seed in 0..100 {
+    for seed in 0..40 {
         let lines = generate::script(seed).lines().count();
         assert!(
             (300..12_000).contains(&lines),
@@ -170,7 +170,7 @@ fn scripts_have_some_hundred_to_some_thousand_lines() {
 
 #[test]
 fn only_a_last_bad_line_stops_a_script() {
-    for seed in 0..100 {
+    for seed in 0..40 {
         let script = generate::script(seed);
         let output = bench::run(script.as_bytes());
         let text = String::from_utf8_lossy(&output);

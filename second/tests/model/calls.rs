@@ -10,7 +10,7 @@ use second::status::{
     TRACK_0,
 };
 
-use crate::desk::{Desk, Fm, Mfm, BOTH, NO_LIMIT};
+use crate::desk::{Desk, Fm, Mfm, NO_LIMIT};
 
 const BAD_CELL: u16 = 512;
 
@@ -312,8 +312,8 @@ fn the_status_keeps_its_type_where_a_command_ends() {
     assert_eq!(desk.status(), TRACK_0 | HEAD_LOADED);
 }
 
-#[test]
-fn an_idle_force_interrupt_turns_bits_3_and_4_off() {
+/// A machine left idle with Record Not Found and a CRC error.
+fn desk_after_bad_search() -> Desk {
     let mut desk = Desk::new(Fm);
     let mut bad = layout::id_cells(Fm, [0, 0, 1, 0]);
     bad[6] ^= 1;
@@ -321,8 +321,23 @@ fn an_idle_force_interrupt_turns_bits_3_and_4_off() {
     desk.command(0x80);
     desk.run(NO_LIMIT);
     assert_eq!(desk.status(), NOT_FOUND | CRC_ERROR);
+    desk
+}
+
+#[test]
+fn an_idle_force_interrupt_turns_bits_3_and_4_off() {
+    let mut desk = desk_after_bad_search();
     desk.command(0xD0);
     assert_eq!(desk.status(), HEAD_LOADED | INDEX);
+}
+
+#[test]
+fn any_other_command_clears_bits_3_and_4() {
+    for (byte, status) in [(0x80, BUSY), (0x18, BUSY | HEAD_LOADED | INDEX)] {
+        let mut desk = desk_after_bad_search();
+        desk.command(byte);
+        assert_eq!(desk.status(), status);
+    }
 }
 
 #[test]
@@ -347,13 +362,13 @@ fn the_index_bit_is_off_until_the_first_byte_time_has_passed() {
 
 #[test]
 fn loading_a_command_clears_lost_data_and_drq() {
-    for density in BOTH {
-        let mut desk = Desk::new(density);
+    for (byte, status) in [(0x80, BUSY), (0x18, BUSY | HEAD_LOADED | INDEX)] {
+        let mut desk = Desk::new(Fm);
         desk.command(0xF0);
         desk.byte_time();
         assert_eq!(desk.status(), LOST_DATA | DATA_REQUEST);
-        desk.command(0x80);
-        assert_eq!(desk.status(), BUSY);
+        desk.command(byte);
+        assert_eq!(desk.status(), status);
         assert!(!desk.machine.data_request && !desk.machine.interrupt_request);
     }
 }

@@ -43,6 +43,22 @@ fn read_sector_hands_over_each_length() {
 }
 
 #[test]
+fn a_byte_that_nobody_reads_is_lost_to_the_next_one() {
+    for density in BOTH {
+        let mut desk = Desk::new(density);
+        let data: Vec<u8> = (0..128).collect();
+        desk.put_id_before(100, [0, 0, 1, 0]);
+        desk.put_data(110, 0xFB, &data);
+        desk.command(0x80);
+        desk.run(NO_LIMIT);
+        desk.byte_times(5);
+        assert_eq!(desk.status(), BUSY | DATA_REQUEST | LOST_DATA);
+        assert_eq!(desk.read(3), 5);
+        assert_eq!(desk.status(), BUSY | LOST_DATA);
+    }
+}
+
+#[test]
 fn flags_are_ignored_on_data_and_crc_cells() {
     for density in BOTH {
         let mut desk = desk_with_sectors(density, &[0xFB]);
@@ -156,6 +172,17 @@ fn record_not_found_leaves_drq() {
     while !desk.machine.interrupt_request {
         desk.byte_time();
     }
+    assert_eq!(desk.status(), NOT_FOUND | LOST_DATA | DATA_REQUEST);
+}
+
+#[test]
+fn a_window_without_data_mark_leaves_drq_too() {
+    let mut desk = desk_with_sectors(Fm, &[0xFB, 0xFA]);
+    desk.command(0x90);
+    while !desk.machine.interrupt_request {
+        desk.byte_time();
+    }
+    assert_eq!(desk.machine.position, 400 + 30);
     assert_eq!(desk.status(), NOT_FOUND | LOST_DATA | DATA_REQUEST);
 }
 

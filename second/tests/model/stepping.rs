@@ -23,6 +23,18 @@ fn a_seek_of_k_steps_ends_in_byte_time_1_and_k_step_times() {
 }
 
 #[test]
+fn a_seek_goes_towards_dr_however_far() {
+    for (from, to, pulse) in [(0, 255, In), (255, 0, Out), (7, 8, In), (8, 7, Out)] {
+        let mut desk = Desk::new(Fm);
+        desk.load(1, from);
+        desk.load(3, to);
+        desk.command(0x10);
+        assert_eq!(desk.byte_time(), Some(pulse));
+        assert_eq!(desk.machine.direction, pulse);
+    }
+}
+
+#[test]
 fn a_dr_loaded_on_the_way_counts() {
     let mut desk = Desk::new(Fm);
     desk.load(1, 10);

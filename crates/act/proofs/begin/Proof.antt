@@ -1,0 +1,34 @@
+-- `act::begin` meets its contract, by its tests and its callees' contracts. Assumes nothing.
+use mathlib.Core.List.{[], _∷_}
+use mathlib.Core.Path.{refl}
+use borrow.Author.Needs.{needs}
+use Rattle.order.proofs.Arms.{jobs}
+use Rattle.order.specs.declared.Job.the-variants as job
+use Rattle.act.proofs.begin.Statement.{statement}
+use Rattle.act.specs.Turns.{begunOf}
+use Rattle.act.proofs.begin.Tie as tie
+
+enum-told : tie.Need-enum-told
+enum-told c = search needs
+
+enum-told-2 : tie.Need-enum-told-2
+enum-told-2 c = search needs
+
+returns : tie.Need-returns
+unfolding begunOf
+returns c = simp (c .enum-told .given .1)
+
+returns-2 : tie.Need-returns-2
+unfolding begunOf
+returns-2 c = jobs begunOf (c .before .args .job) (job.Verify ∷ job.ReadSector ∷ job.WriteSector ∷ []) refl (c .match .keys2)
+
+returns-3 : tie.Need-returns-3
+unfolding begunOf
+returns-3 c = simp (c .enum-told2 .given .1)
+
+returns-4 : tie.Need-returns-4
+unfolding begunOf
+returns-4 c = jobs begunOf (c .before .args .job) (job.ReadTrack ∷ job.WriteTrack ∷ []) refl (c .match .keys4)
+
+pub begin-spec : {M : Type 1} → statement M
+begin-spec = tie.close (tie.spec enum-told enum-told-2 returns returns-2 returns-3 returns-4)

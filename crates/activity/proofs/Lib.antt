@@ -1,0 +1,2 @@
+-- What the proofs of `activity` share.
+pub mod Arms

@@ -1,0 +1,124 @@
+// What the controller can be doing, and what a byte time sees and does.
+ghost use mathlib.Core.Path.{_≡_};
+ghost use Rattle.activity.specs.Limits.{busyIn, scanWithin, countsWithin};
+use scan::Scan;
+
+// What a byte time sees: density, index pulse, the ring's last cell, lines, wires, registers and the cell that passes.
+pub struct Seen {
+    pub mfm: bool,
+    pub index: bool,
+    pub last: bool,
+    pub hlt: bool,
+    pub track0: bool,
+    pub drq: bool,
+    pub tr: u8,
+    pub sr: u8,
+    pub dr: u8,
+    pub cell: u16,
+}
+
+// What the controller is doing. What its command's bits say stands in the order beside it.
+pub enum Activity {
+    Idle,
+    // Restore and Seek: in so many byte times comes the next decision.
+    Seek(u16),
+    // Step, Step-in, Step-out: the pulse is next.
+    Pulse,
+    // Behind it: in so many byte times comes the stop.
+    Stop(u16),
+    // So many byte times are left to settle; behind them HLT is awaited.
+    Settle(u16),
+    // For an ID: index pulses seen, and where the scanner stands.
+    Search(u8, Scan),
+    // For a data mark: cells of its field, cells passed behind the ID, flagged A1 cells last in a row.
+    Window(u16, u8, u8),
+    // Cells left of the data field, the register, and whether its mark was the deleted one.
+    Data(u16, u16, bool),
+    // For an ID mark: index pulses seen, flagged A1 cells last in a row.
+    Hunt(u8, u8),
+    // Cells passed behind the ID mark, the register, the track.
+    Address(u8, u16, u8),
+    // The track commands: for the first index pulse.
+    Await,
+    TrackRead,
+    // Cells to write from the data on, and cells passed behind the ID.
+    Preamble(u16, u8),
+    // Cells left to write, and the register.
+    Put(u16, u16),
+    // The register.
+    Format(u16),
+    // The register whose low byte is to be written.
+    FormatCrc(u16),
+}
+
+// What happens to registers, wires, flags and head. Where the activity becomes Idle the command has ended.
+pub enum Deed {
+    Nothing,
+    // A byte goes to DR.
+    Deliver(u8),
+    // An address's last byte goes to DR, its track to SR; is its CRC bad?
+    Named(u8, u8, bool),
+    // An ID matched; is its CRC bad?
+    Matched(bool),
+    // Seek Error, or Record Not Found.
+    NotFound,
+    // A record was read: is it deleted, is its CRC bad, does another follow?
+    Record(bool, bool, bool),
+    // A record was written: does another follow?
+    Written(bool),
+    // DRQ goes on or off.
+    Ask(bool),
+    // Nobody has served.
+    Late,
+    // DR is taken, and DRQ goes on or off.
+    Take(bool),
+    // A step pulse in or out, and TR behind it.
+    Step(bool, u8),
+    // Type I stops: by the track 0 rule? Is the head loaded?
+    Halt(bool, bool),
+}
+
+// What the activity is next, what happens, and the cell as it is left.
+pub struct Act {
+    pub next: Activity,
+    pub deed: Deed,
+    pub cell: u16,
+}
+
+// A command is under way.
+pub fn busy(activity: Activity) -> bool
+    ensures { λ r. ⌜ r ≡ busyIn activity ⌝ }
+{
+    match activity {
+        Activity::Idle => false,
+        _ => true,
+    }
+}
+
+fn scan_within(scan: Scan) -> bool
+    ensures { λ r. ⌜ r ≡ scanWithin scan ⌝ }
+{
+    match scan {
+        Scan::Gap(run) => run <= 3,
+        Scan::Field(part) => part.passed <= 5,
+    }
+}
+
+// No count is above the largest that its activity holds.
+pub fn within(activity: Activity) -> bool
+    ensures { λ r. ⌜ r ≡ countsWithin activity ⌝ }
+{
+    match activity {
+        Activity::Seek(left) => left <= 938,
+        Activity::Stop(left) => left <= 938,
+        Activity::Settle(left) => left <= 938,
+        Activity::Search(pulses, scan) => (pulses <= 4) & scan_within(scan),
+        Activity::Window(left, passed, run) => (left <= 1026) & (passed <= 42) & (run <= 3),
+        Activity::Data(left, _, _) => left <= 1026,
+        Activity::Hunt(pulses, run) => (pulses <= 4) & (run <= 3),
+        Activity::Address(passed, _, _) => passed <= 5,
+        Activity::Preamble(left, passed) => (left <= 1027) & (passed <= 37),
+        Activity::Put(left, _) => left <= 1027,
+        _ => true,
+    }
+}

@@ -1,0 +1,3 @@
+-- What the proofs of `bench` share.
+pub mod Laws
+pub mod Laying

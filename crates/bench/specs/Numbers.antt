@@ -1,0 +1,27 @@
+-- What numbers of the language stand for. Assumes nothing.
+use mathlib.Core.Bool.{Bool, cond}
+use Prim.Native.Nat.{ℕ, _/_, _%_}
+use lib.Dec.{eqb}
+use Rattle.chip.specs.declared.Lines.{Lines}
+use Rattle.chip.specs.declared.Pulse.{Pulse}
+use Rattle.chip.specs.declared.Pulse.the-variants as pulse
+
+-- "bit 0 Ready, bit 1 protect, bit 2 track 0, bit 3 head-loaded (HLT)"
+abbrev pub linesOf : ℕ → Lines
+linesOf bits =
+    record {
+      ready = eqb (bits % 2) 1;
+      protect = eqb (bits / 2 % 2) 1;
+      track0 = eqb (bits / 4 % 2) 1;
+      hlt = eqb (bits / 8 % 2) 1;
+    }
+
+-- "both rows become L cells of 00FF (FM) or 004E (MFM)"
+abbrev pub gapOf : Bool → ℕ
+gapOf mfm = cond mfm 0x4E 0xFF
+
+-- "p is 00 for no step pulse, 01 for one in, 02 for one out"
+abbrev pub pulseByte : Pulse → ℕ
+pulseByte pulse.Off = 0
+pulseByte pulse.In = 1
+pulseByte pulse.Out = 2

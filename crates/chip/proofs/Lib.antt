@@ -1,0 +1,2 @@
+-- What the proofs of `chip` share.
+pub mod Arms

@@ -1,0 +1,16 @@
+-- `chip::accepting::held` meets its contract, by its tests and its callees' contracts. Assumes nothing.
+use mathlib.Core.Path.{sym}
+use borrow.Author.Needs.{needs}
+use Rattle.chip.proofs.accepting.held.Statement.{statement}
+use Rattle.chip.specs.Accepting.{heldBy}
+use Rattle.chip.proofs.accepting.held.Tie as tie
+
+writes-to-disk-requires : tie.Need-writes-to-disk-requires
+writes-to-disk-requires c κs = search needs
+
+returns : tie.Need-returns
+unfolding heldBy
+returns c = simp (sym (c .before .before .writes-to-disk .ensures))
+
+pub held-spec : {M : Type 1} → statement M
+held-spec = tie.close (tie.spec writes-to-disk-requires returns)

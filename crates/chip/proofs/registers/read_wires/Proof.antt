@@ -1,0 +1,12 @@
+-- `chip::registers::read_wires` meets its contract, by its tests and its callees' contracts. Assumes nothing.
+use mathlib.Core.Path.{refl}
+use Rattle.chip.proofs.registers.read_wires.Statement.{statement}
+use Rattle.chip.specs.Registers.{readWires}
+use Rattle.chip.proofs.registers.read_wires.Tie as tie
+
+returns : tie.Need-returns
+unfolding readWires
+returns c = refl
+
+pub read-wires-spec : {M : Type 1} → statement M
+read-wires-spec = tie.close (tie.spec returns)

@@ -1,0 +1,6 @@
+-- The definitions that the contracts of `chip` cite.
+pub mod Rings
+pub mod Status
+pub mod Registers
+pub mod Accepting
+pub mod Deeds

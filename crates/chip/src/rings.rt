@@ -1,0 +1,64 @@
+// The ring: its length, the head's position, and what a byte time sees there.
+ghost use mathlib.Core.Path.{_≡_};
+ghost use Rattle.chip.specs.Rings.{lengthWithin, ringWithin, nextOf, seenOf, toldOf};
+use crate::Conditions;
+use crate::Lines;
+use crate::Regs;
+use crate::Ring;
+use activity::Seen;
+
+pub fn length_within(length: u16) -> bool
+    ensures { λ r. ⌜ r ≡ lengthWithin length ⌝ }
+{
+    (2048 <= length) & (length <= 6400)
+}
+
+pub fn ring_within(ring: Ring) -> bool
+    ensures { λ r. ⌜ r ≡ ringWithin ring ⌝ }
+{
+    length_within(ring.length) & (ring.position < ring.length)
+}
+
+// The position goes up by one, and from the last cell to 0. One that is out of range stays where it is.
+pub fn next(ring: Ring) -> Ring
+    ensures { λ r. ⌜ r ≡ nextOf ring ⌝ }
+{
+    if ring.position < ring.length {
+        if ring.position + 1 == ring.length {
+            return Ring {
+                length: ring.length,
+                position: 0,
+            };
+        }
+        return Ring {
+            length: ring.length,
+            position: ring.position + 1,
+        };
+    }
+    ring
+}
+
+// What a byte time sees.
+pub fn look(mfm: bool, ring: Ring, regs: Regs, drq: bool, lines: Lines, cell: u16) -> Seen
+    ensures { λ r. ⌜ r ≡ seenOf mfm ring regs drq lines cell ⌝ }
+{
+    Seen {
+        mfm,
+        index: ring.position == 0,
+        last: ring.position as u32 + 1 == ring.length as u32,
+        hlt: lines.hlt,
+        track0: lines.track0,
+        drq,
+        tr: regs.tr,
+        sr: regs.sr,
+        dr: regs.dr,
+        cell,
+    }
+}
+
+// What a Force Interrupt asked to be told of has come.
+pub fn told(conditions: Conditions, was: bool, ready: bool, index: bool) -> bool
+    ensures { λ r. ⌜ r ≡ toldOf conditions was ready index ⌝ }
+{
+    (conditions.on & ready & !was) | (conditions.off & !ready & was) | (conditions.index & index)
+}

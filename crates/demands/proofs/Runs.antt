@@ -1,0 +1,200 @@
+-- A run makes byte times, and counts those that it makes. Assumes nothing.
+use mathlib.Core.Path.{_≡_, refl, sym, ap, subst}
+use mathlib.Core.Bool.{Bool, true, false}
+use mathlib.Core.List.{List}
+use Prim.Native.Nat.{ℕ, zero, suc, _+_, _<_}
+use native.Mathlib.Omega.{arith}
+use lib.Dec.{ltb, eqb}
+use lib.ListN.{length}
+use borrow.Author.Tests.{eqb-true, eqb-false, eq-eqb, ne-eqb}
+use Rattle.common.proofs.Cases.{by-cond, never}
+use Rattle.chip.specs.declared.Lines.{Lines}
+use Rattle.wd.specs.declared.Machine.{Machine}
+use Rattle.chip.specs.declared.Pulse.{Pulse}
+use Rattle.chip.specs.declared.Pulse.the-variants as pulse
+use Rattle.wd.specs.declared.Passed.{Passed}
+use Rattle.wd.specs.declared.Tally.{Tally}
+use Rattle.wd.specs.Rows.{rowRefusal, under, refusedAt, doneBy, passedOf, rowOf, tallied, countedOf, ranTo, emptyRun, stopsAt, Run, nextIn, onward, runsOn, runFrom, runOf}
+use Rattle.wd.proofs.Valid.{pass-open}
+use Rattle.wd.proofs.Runs.{at, open-run}
+use Rattle.demands.specs.ByteTimes.{machineAfter, rowAfter, numberAfter, calls, Stops, by-limit, by-wire, by-cell, Makes}
+use Rattle.demands.proofs.AsGiven.{byte-time-machine, byte-time-row}
+
+-- ---- one byte time of a run
+
+-- in a run only 4 refuses
+only-four :
+    (m : Machine) (l : Lines) (row : List ℕ)
+    → rowRefusal m (length row) ≡ 0
+    → (passedOf m l row .number ≡ 0 → ⊥)
+    → passedOf m l row .number ≡ 4
+unfolding passedOf refusedAt doneBy
+only-four m l row opens =
+    by-cond (λ (p : Passed). (p .number ≡ 0 → ⊥) → p .number ≡ 4) (eqb (rowRefusal m (length row)) 0)
+    (λ e.
+    by-cond (λ (p : Passed). (p .number ≡ 0 → ⊥) → p .number ≡ 4) (ltb 511 (under m row))
+    (λ f h. refl)
+    (λ f h. absurd (h refl)))
+    (λ e h. absurd (h opens))
+
+tallied-one : (t : Tally) (p : Pulse) → tallied t p .passed ≡ t .passed + 1
+unfolding tallied
+tallied-one t pulse.Off = refl
+tallied-one t pulse.In = refl
+tallied-one t pulse.Out = refl
+
+counted-one : (t : Tally) (number : ℕ) (p : Pulse) → number ≡ 0 → countedOf t number p .passed ≡ t .passed + 1
+unfolding countedOf
+counted-one t number p done = rw (eq-eqb _ _ done) (tallied-one t p)
+
+counted-none : (t : Tally) (number : ℕ) (p : Pulse) → (number ≡ 0 → ⊥) → countedOf t number p .passed ≡ t .passed + 0
+unfolding countedOf
+counted-none t number p refused = rw (ne-eqb _ _ refused) (omega arith)
+
+-- ---- all of them
+
+-- no wire is on behind n byte times, none of them counted in
+still : (n : ℕ) (m : Machine) (l : Lines) (row : List ℕ)
+    → calls m ≡ false
+    → (0 < n → calls (machineAfter n m l row) ≡ false)
+    → calls (machineAfter n m l row) ≡ false
+unfolding machineAfter
+still zero m l row first rest = first
+still (suc n) m l row first rest = rest (omega arith)
+
+-- one byte time more in front
+later : {m : Machine} {l : Lines} {limit : ℕ} {row : List ℕ} {n number : ℕ}
+    → calls (passedOf m l row .machine) ≡ false
+    → Stops (passedOf m l row .machine) l limit (rowOf m l row) n number
+    → Stops m l (suc limit) row (suc n) number
+unfolding machineAfter rowAfter
+later quiet (by-limit e) = by-limit (ap suc e)
+later quiet (by-wire some e) = by-wire (omega arith) e
+later {m} {l} {limit} {row} {n} quiet (by-cell below off e) =
+    by-cell (omega arith) (λ _. still n (passedOf m l row .machine) l (rowOf m l row) quiet off) e
+
+front : (P : ℕ → Type 0) (n : ℕ) → P 0 → ((k : ℕ) → suc k < n → P (suc k)) → (k : ℕ) → k < n → P k
+front P n first rest zero h = first
+front P n first rest (suc k) h = rest k h
+
+-- how far a run comes from there, in so many byte times
+abbrev MakesSome : ℕ → Lines → Run → Run → Type 0
+MakesSome limit l from to =
+    (n : ℕ)
+    × (to .ran .tally .passed ≡ from .ran .tally .passed + n)
+    × Makes (from .ran .machine) l limit (from .row) n to
+
+makes-none : (limit : ℕ) (l : Lines) (r : Run) → r .ran .number ≡ 0 → limit ≡ 0 → MakesSome limit l r r
+unfolding machineAfter rowAfter
+makes-none limit l r z e = (
+  0,
+  omega arith,
+  record {
+    most = omega arith;
+    accepted = λ k h. absurd (omega arith);
+    quiet = λ k h. absurd (omega arith);
+    left = refl;
+    written = refl;
+    stops = rw z (by-limit (sym e));
+  },
+)
+
+module _ (limit : ℕ) (l : Lines) (r : Run) (opens : rowRefusal (r .ran .machine) (length (r .row)) ≡ 0) where
+  makes-last : stopsAt (nextIn l r) ≡ true → MakesSome (suc limit) l r (onward l r)
+  unfolding stopsAt onward ranTo machineAfter rowAfter
+  makes-last e = by (eqb (nextIn l r .number) 0) refl
+    where
+      by : (b : Bool) → eqb (nextIn l r .number) 0 ≡ b → MakesSome (suc limit) l r (onward l r)
+      by true d =
+          let done : nextIn l r .number ≡ 0 = eqb-true _ _ d in (
+            1,
+            counted-one (r .ran .tally) _ _ done,
+            record {
+              most = omega arith;
+              accepted = front (λ (k : ℕ). numberAfter k (r .ran .machine) l (r .row) ≡ 0) 1 done (λ k h. absurd (omega arith));
+              quiet = λ k h. absurd (omega arith);
+              left = refl;
+              written = refl;
+              stops = rw done (by-wire (omega arith) (rw d at e));
+            },
+          )
+      by false d =
+          let refused : nextIn l r .number ≡ 0 → ⊥ = eqb-false _ _ d in
+          let four : nextIn l r .number ≡ 4 = only-four (r .ran .machine) l (r .row) opens refused in (
+            0,
+            counted-none (r .ran .tally) _ _ refused,
+            record {
+              most = omega arith;
+              accepted = λ k h. absurd (omega arith);
+              quiet = λ k h. absurd (omega arith);
+              left = byte-time-machine (r .ran .machine) l (r .row) refused;
+              written = byte-time-row (r .ran .machine) l (r .row) refused;
+              stops = rw four (by-cell (omega arith) (λ h. absurd (omega arith)) four);
+            },
+          )
+
+  makes-more : (to : Run) → nextIn l r .number ≡ 0 → calls (nextIn l r .machine) ≡ false
+      → MakesSome limit l (onward l r) to
+      → MakesSome (suc limit) l r to
+  unfolding onward ranTo machineAfter rowAfter
+  makes-more to done quiet (n, c, made) = (
+    suc n,
+    omega (arith, counted-one (r .ran .tally) _ (nextIn l r .pulse) done, c),
+    record {
+      most = omega (arith, made .most);
+      accepted =
+          front (λ (k : ℕ). numberAfter k (r .ran .machine) l (r .row) ≡ 0) (suc n) done
+          (λ k h. made .accepted k (omega arith));
+      quiet =
+          λ k h.
+          front (λ (k : ℕ). calls (machineAfter (suc k) (r .ran .machine) l (r .row)) ≡ false) n quiet (made .quiet) k
+          (omega arith);
+      left = made .left;
+      written = made .written;
+      stops = later quiet (made .stops);
+    },
+  )
+
+goes-on : (p : Passed) → stopsAt p ≡ false → (p .number ≡ 0) × (calls (p .machine) ≡ false)
+unfolding stopsAt
+goes-on p e = by (eqb (p .number) 0) refl
+  where
+    by : (b : Bool) → eqb (p .number) 0 ≡ b → (p .number ≡ 0) × (calls (p .machine) ≡ false)
+    by true d = (eqb-true _ _ d, rw d at e)
+    by false d = let z : true ≡ false = rw d at e in never (cc)
+
+makes : (limit : ℕ) (l : Lines) (r : Run)
+    → rowRefusal (r .ran .machine) (length (r .row)) ≡ 0
+    → r .ran .number ≡ 0
+    → MakesSome limit l r (runsOn limit l r)
+unfolding runsOn onward ranTo
+makes zero l r opens z = makes-none 0 l r z refl
+makes (suc limit) l r opens z =
+    by-cond (MakesSome (suc limit) l r) (stopsAt (nextIn l r))
+    (makes-last limit l r opens)
+    (λ e.
+    let on = goes-on (nextIn l r) e in
+    makes-more limit l r opens (runsOn limit l (onward l r)) (on .0) (on .1)
+    (makes limit l (onward l r) (pass-open (r .ran .machine) l (r .row) opens) (on .0)))
+
+-- a run that begins with no count tells how many it makes
+from-none :
+    (limit : ℕ) (l : Lines) (from to : Run)
+    → from .ran .tally .passed ≡ 0
+    → MakesSome limit l from to
+    → Makes (from .ran .machine) l limit (from .row) (to .ran .tally .passed) to
+from-none limit l from to none (n, c, made) =
+    let told : n ≡ to .ran .tally .passed = omega arith in
+    subst (λ (n : ℕ). Makes (from .ran .machine) l limit (from .row) n to) told made
+
+-- "A run call makes byte times up to a lent limit (0 to 65,535) and stops after the first one that ends with DRQ or INTRQ on.
+-- It reports how many passed."
+pub run-makes :
+    (m : Machine) (l : Lines) (limit : ℕ) (row : List ℕ)
+    → rowRefusal m (length row) ≡ 0
+    → Makes m l limit row (runOf m l limit row .tally .passed) (runFrom m l limit row)
+unfolding emptyRun
+run-makes m l limit row opens =
+    let start = at (emptyRun 0 m) row in
+    subst (λ (r : Run). Makes m l limit row (r .ran .tally .passed) r) (sym (open-run m l limit row opens))
+    (from-none limit l start (runsOn limit l start) refl (makes limit l start opens refl))

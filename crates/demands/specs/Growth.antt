@@ -1,0 +1,20 @@
+-- The machines that a host can come to hold. Assumes nothing.
+use mathlib.Core.Bool.{Bool}
+use mathlib.Core.List.{List}
+use Prim.Native.Nat.{ℕ, _<_}
+use Rattle.chip.specs.declared.Lines.{Lines}
+use Rattle.wd.specs.declared.Machine.{Machine}
+use Rattle.wd.specs.Machines.{poweredOf}
+use Rattle.wd.specs.Reads.{readOf}
+use Rattle.wd.specs.Loads.{loadedOf}
+use Rattle.wd.specs.Rows.{passedOf, runOf}
+
+-- "any machine grown from power-on": what power-on hands back, and what any call hands back for a machine grown before,
+-- refused or not. A byte is below 256; a length, register number, limit or cell that is too large for its type would grow no
+-- machine more, since it is refused or makes byte times like any other.
+pub data Grown : Machine → Type 0 where
+  power-on : (length : ℕ) (mfm : Bool) → Grown (poweredOf length mfm .machine)
+  load : {m : Machine} → Grown m → (l : Lines) (number b : ℕ) → b < 256 → Grown (loadedOf m l number b .machine)
+  read : {m : Machine} → Grown m → (l : Lines) (number : ℕ) → Grown (readOf m l number .machine)
+  byte-time : {m : Machine} → Grown m → (l : Lines) (row : List ℕ) → Grown (passedOf m l row .machine)
+  run : {m : Machine} → Grown m → (l : Lines) (limit : ℕ) (row : List ℕ) → Grown (runOf m l limit row .machine)

@@ -1,0 +1,1 @@
+// What the controller promises of whole runs: definitions and theorems, no code.

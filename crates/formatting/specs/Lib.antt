@@ -1,0 +1,2 @@
+-- The definitions that the contracts of `formatting` cite.
+pub mod Formatting

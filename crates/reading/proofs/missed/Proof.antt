@@ -1,0 +1,27 @@
+-- `reading::missed` meets its contract, by its tests and its callees' contracts. Assumes nothing.
+use mathlib.Core.Path.{sym}
+use borrow.Author.Needs.{needs}
+use borrow.Author.Tests.{le-ltb, lt-ltb}
+use Rattle.reading.proofs.missed.Statement.{statement}
+use Rattle.reading.specs.Reading.{missedOf}
+use Rattle.reading.proofs.missed.Tie as tie
+
+add-if1 : tie.Need-add-if1
+add-if1 c = search needs
+
+window-of-requires : tie.Need-window-of-requires
+window-of-requires c κs = search needs
+
+add-t9 : tie.Need-add-t9
+add-t9 c = search needs
+
+returns : tie.Need-returns
+unfolding missedOf
+returns c = simp (lt-ltb _ _ (c .if1 .taken), sym (c .before .window-of .ensures .0))
+
+returns-2 : tie.Need-returns-2
+unfolding missedOf
+returns-2 c = simp (le-ltb _ _ (c .if1 .left), sym (c .before .window-of .ensures .0))
+
+pub missed-spec : {M : Type 1} → statement M
+missed-spec = tie.close (tie.spec add-if1 window-of-requires add-t9 returns returns-2)

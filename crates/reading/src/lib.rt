@@ -1,0 +1,186 @@
+// Read Sector behind its ID, Read Address and Read Track.
+ghost use mathlib.Core.Path.{_≡_};
+ghost use Prim.Native.Nat.{_≤_};
+ghost use Rattle.reading.specs.Reading.{windowOf, missedOf, metOf, awaitedOf, againOf, readOf, addressBegun, huntedOf, huntOf, trackIn, addressOf, trackReadOf};
+use activity::Act;
+use activity::Activity;
+use activity::Deed;
+use activity::Seen;
+use scan::Passed;
+use scan::Scan;
+use scan::Sought;
+use search::pulses;
+
+// How many cells behind the ID's last may hold the data mark.
+fn window_of(mfm: bool) -> u16
+    ensures { λ r. ⌜ r ≡ windowOf mfm ⌝ }
+    ensures { λ r. ⌜ r ≤ 43 ⌝ }
+{
+    if mfm { 43 } else { 30 }
+}
+
+fn missed(s: Seen, left: u16, passed: u8, run: u8) -> Act
+    ensures { λ r. ⌜ r ≡ missedOf s left passed run ⌝ }
+{
+    if passed as u16 + 1 < window_of(s.mfm) {
+        return Act {
+            next: Activity::Window(left, passed + 1, run),
+            deed: Deed::Nothing,
+            cell: s.cell,
+        };
+    }
+    Act {
+        next: Activity::Idle, // and no search for another ID
+        deed: Deed::NotFound,
+        cell: s.cell,
+    }
+}
+
+fn met(s: Seen, left: u16, passed: u8, sought: Sought) -> Act
+    ensures { λ r. ⌜ r ≡ metOf s left passed sought ⌝ }
+{
+    match sought {
+        Sought::On(run) => missed(s, left, passed, run),
+        Sought::Met(mark) => Act {
+            next: Activity::Data(
+                left,
+                scan::mark_crc(s.mfm, scan::mark_byte(mark)),
+                scan::is_deleted(mark),
+            ),
+            deed: Deed::Nothing,
+            cell: s.cell,
+        },
+    }
+}
+
+// A cell behind the ID of a Read Sector.
+pub fn window(s: Seen, left: u16, passed: u8, run: u8) -> Act
+    ensures { λ r. ⌜ r ≡ awaitedOf s left passed run ⌝ }
+{
+    met(s, left, passed, scan::seek_data(s.mfm, s.cell, run))
+}
+
+// Behind a record: the next search, or the end.
+pub fn again(multiple: bool) -> Activity
+    ensures { λ r. ⌜ r ≡ againOf multiple ⌝ }
+{
+    if multiple {
+        Activity::Search(0, Scan::Gap(0))
+    } else {
+        Activity::Idle
+    }
+}
+
+// A cell of a data field.
+pub fn read(s: Seen, multiple: bool, left: u16, crc: u16, deleted: bool) -> Act
+    ensures { λ r. ⌜ r ≡ readOf s multiple left crc deleted ⌝ }
+{
+    let byte = (s.cell % 256) as u8;
+    let next = crc::step(crc, byte);
+    if 3 <= left {
+        return Act {
+            next: Activity::Data(left - 1, next, deleted),
+            deed: Deed::Deliver(byte),
+            cell: s.cell,
+        };
+    }
+    if left == 2 {
+        return Act {
+            next: Activity::Data(1, next, deleted),
+            deed: Deed::Nothing,
+            cell: s.cell,
+        };
+    }
+    Act {
+        next: again(multiple),
+        deed: Deed::Record(deleted, next != 0, multiple),
+        cell: s.cell,
+    }
+}
+
+fn begin_address(mfm: bool, pulses: u8, byte: u8) -> Activity
+    ensures { λ r. ⌜ r ≡ addressBegun mfm pulses byte ⌝ }
+{
+    if byte == 0xFE {
+        Activity::Address(0, scan::mark_crc(mfm, 0xFE), 0)
+    } else {
+        Activity::Hunt(pulses, 0)
+    }
+}
+
+fn hunted(s: Seen, pulses: u8, passed: Passed) -> Act
+    ensures { λ r. ⌜ r ≡ huntedOf s pulses passed ⌝ }
+{
+    match passed {
+        Passed::Gap(run) => Act {
+            next: Activity::Hunt(pulses, run),
+            deed: Deed::Nothing,
+            cell: s.cell,
+        },
+        Passed::Mark(byte) => Act {
+            next: begin_address(s.mfm, pulses, byte),
+            deed: Deed::Nothing,
+            cell: s.cell,
+        },
+    }
+}
+
+// Read Address before its mark.
+pub fn hunt(s: Seen, seen: u8, run: u8) -> Act
+    ensures { λ r. ⌜ r ≡ huntOf s seen run ⌝ }
+{
+    let count = pulses(seen, s.index);
+    if 5 <= count {
+        return Act {
+            next: Activity::Idle,
+            deed: Deed::NotFound,
+            cell: s.cell,
+        };
+    }
+    hunted(s, count, scan::pass(s.mfm, s.cell, run))
+}
+
+fn track_of(passed: u8, byte: u8, track: u8) -> u8
+    ensures { λ r. ⌜ r ≡ trackIn passed byte track ⌝ }
+{
+    if passed == 0 { byte } else { track }
+}
+
+// A cell behind the mark of a Read Address.
+pub fn address(s: Seen, passed: u8, crc: u16, track: u8) -> Act
+    ensures { λ r. ⌜ r ≡ addressOf s passed crc track ⌝ }
+{
+    let byte = (s.cell % 256) as u8;
+    let next = crc::step(crc, byte);
+    if 5 <= passed {
+        return Act {
+            next: Activity::Idle,
+            deed: Deed::Named(byte, track, next != 0),
+            cell: s.cell,
+        };
+    }
+    Act {
+        next: Activity::Address(passed + 1, next, track_of(passed, byte, track)),
+        deed: Deed::Deliver(byte),
+        cell: s.cell,
+    }
+}
+
+// A cell of a Read Track.
+pub fn track_read(s: Seen) -> Act
+    ensures { λ r. ⌜ r ≡ trackReadOf s ⌝ }
+{
+    let byte = (s.cell % 256) as u8;
+    if s.last {
+        return Act {
+            next: Activity::Idle,
+            deed: Deed::Deliver(byte),
+            cell: s.cell,
+        };
+    }
+    Act {
+        next: Activity::TrackRead,
+        deed: Deed::Deliver(byte),
+        cell: s.cell,
+    }
+}

@@ -1,0 +1,51 @@
+-- No line has more numbers than a place and 64 cells, however its bytes go on. Assumes nothing.
+use Prim.Native.Nat.{ℕ, zero-le, _≤_}
+use native.Mathlib.Omega.{arith}
+use lib.Dec.{leb, eqb}
+use borrow.Author.Tests.{leb-false}
+use Rattle.common.proofs.Cases.{by-cond}
+use Rattle.script.specs.Words.{isLetter, isNumber}
+use Rattle.script.specs.Lines.{noLine, spoilt, lettered, numbered, lineWith, lineStart, wordEnd, fedOf, lineOf}
+use Rattle.script.specs.declared.words.Word.{Word}
+use Rattle.script.specs.declared.lines.Line.{Line}
+use Rattle.script.specs.declared.lines.Reader.{Reader}
+
+abbrev Holds : Line → Type 0
+Holds l = l .count ≤ 65
+
+abbrev Reads : Reader → Type 0
+Reads r = Holds (r .line)
+
+lettered-holds : (l : Line) (w : Word) → Holds l → Holds (lettered l w)
+unfolding lettered spoilt
+lettered-holds l w h = by-cond Holds (isLetter w) (λ _. h) (λ _. h)
+
+numbered-holds : (l : Line) (w : Word) → Holds l → Holds (numbered l w)
+unfolding numbered spoilt
+numbered-holds l w h =
+    by-cond Holds (leb 65 (l .count)) (λ _. h)
+    (λ e. by-cond Holds (isNumber w) (λ _. omega (arith, leb-false 65 (l .count) e)) (λ _. h))
+
+with-holds : (l : Line) (w : Word) → Holds l → Holds (lineWith l w)
+unfolding lineWith
+with-holds l w h =
+    by-cond Holds (eqb (w .size) 0) (λ _. h)
+    (λ _. by-cond Holds (eqb (l .letter) 0) (λ _. lettered-holds l w h) (λ _. numbered-holds l w h))
+
+pub start-holds : lineStart .line .count ≤ 65
+unfolding lineStart noLine
+start-holds = zero-le
+
+pub fed-holds : (r : Reader) (byte : ℕ) → r .line .count ≤ 65 → fedOf r byte .line .count ≤ 65
+unfolding fedOf wordEnd
+fed-holds r byte h =
+    by-cond Reads (r .comment) (λ _. h)
+    (λ _. by-cond Reads (eqb byte 0x20) (λ _. ended)
+    (λ _. by-cond Reads (eqb byte 0x23) (λ _. ended) (λ _. h)))
+  where
+    ended : Holds (lineWith (r .line) (r .word))
+    ended = with-holds (r .line) (r .word) h
+
+pub ended-holds : (r : Reader) → r .line .count ≤ 65 → lineOf r .count ≤ 65
+unfolding lineOf
+ended-holds r h = with-holds (r .line) (r .word) h

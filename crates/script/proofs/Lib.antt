@@ -1,0 +1,3 @@
+-- Laws of the script's lines, for the crates above.
+pub mod Laws
+pub mod ReadBack

@@ -1,0 +1,52 @@
+-- Lines: a letter, and numbers. Assumes nothing.
+use mathlib.Core.Bool.{Bool, true, false, cond}
+use Prim.Native.Nat.{ℕ, _+_}
+use lib.Dec.{leb, eqb}
+use lib.ListN.{set, replicate}
+use Rattle.script.specs.Words.{noWord, wordWith, isLetter, isNumber}
+use Rattle.script.specs.declared.words.Word.{Word}
+use Rattle.script.specs.declared.lines.Line.{Line}
+use Rattle.script.specs.declared.lines.Reader.{Reader}
+
+unfoldable pub noLine : Line
+noLine = record { letter = 0; count = 0; numbers = replicate 65 0; bad = false }
+
+unfoldable pub spoilt : Line → Line
+spoilt l = record { letter = l .letter; count = l .count; numbers = l .numbers; bad = true }
+
+-- "A line is a capital letter"
+unfoldable pub lettered : Line → Word → Line
+lettered l w =
+    cond (isLetter w)
+    (record { letter = w .last; count = l .count; numbers = l .numbers; bad = l .bad })
+    (spoilt l)
+
+-- "and then numbers", of which no line takes more than a place and 64 cells
+unfoldable pub numbered : Line → Word → Line
+numbered l w =
+    cond (leb 65 (l .count)) (spoilt l)
+    (cond (isNumber w)
+    (record { letter = l .letter; count = l .count + 1; numbers = set (l .numbers) (l .count) (w .value); bad = l .bad })
+    (spoilt l))
+
+-- "separated by one or more spaces": between two spaces there is no word
+unfoldable pub lineWith : Line → Word → Line
+lineWith l w = cond (eqb (w .size) 0) l (cond (eqb (l .letter) 0) (lettered l w) (numbered l w))
+
+unfoldable pub lineStart : Reader
+lineStart = record { line = noLine; word = noWord; comment = false }
+
+unfoldable pub wordEnd : Reader → Bool → Reader
+wordEnd r comment = record { line = lineWith (r .line) (r .word); word = noWord; comment = comment }
+
+-- "`#` starts a comment that runs to the end of the line"; a space ends a word, as the comment does
+unfoldable pub fedOf : Reader → ℕ → Reader
+fedOf r byte =
+    cond (r .comment) r
+    (cond (eqb byte 0x20) (wordEnd r false)
+    (cond (eqb byte 0x23) (wordEnd r true)
+    (record { line = r .line; word = wordWith (r .word) byte; comment = false })))
+
+-- the line whose bytes these were
+unfoldable pub lineOf : Reader → Line
+lineOf r = lineWith (r .line) (r .word)

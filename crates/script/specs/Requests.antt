@@ -1,0 +1,61 @@
+-- What a line asks for. Assumes nothing.
+use mathlib.Core.Bool.{cond}
+use Prim.Native.Nat.{ℕ}
+use lib.Dec.{ltb, eqb}
+use lib.ListN.{getD}
+use Rattle.script.specs.declared.lines.Line.{Line}
+use Rattle.script.specs.declared.requests.Request.{Request}
+use Rattle.script.specs.declared.requests.Request.the-variants.{Nothing, PowerOn, SetLines, Load, Read, ByteTime, Run, SetPosition, SetLength, SetCount, Fill, SetCells, Show, Swap, Bad}
+
+-- "A register number or a byte above FF, drive lines above F and a density above 1 are errors of the script"
+unfoldable pub powering : ℕ → ℕ → Request
+powering density length = cond (ltb 1 density) Bad (PowerOn (eqb density 1) length)
+
+unfoldable pub wiring : ℕ → Request
+wiring bits = cond (ltb 0xF bits) Bad (SetLines bits)
+
+unfoldable pub loading : ℕ → ℕ → Request
+loading register byte = cond (ltb 0xFF register) Bad (cond (ltb 0xFF byte) Bad (Load register byte))
+
+unfoldable pub reading : ℕ → Request
+reading register = cond (ltb 0xFF register) Bad (Read register)
+
+-- "those named, 1 to 64 (decimal) of them": a line has no more than 65 numbers
+unfoldable pub cellsFrom : ℕ → ℕ → Request
+cellsFrom count place = cond (ltb count 2) Bad (SetCells place)
+
+-- the letters, by how many numbers they take
+unfoldable pub ofNone : ℕ → Request
+ofNone letter = cond (eqb letter 0) Nothing (cond (eqb letter 0x42) ByteTime (cond (eqb letter 0x55) Swap Bad))
+
+unfoldable pub ofOne : ℕ → ℕ → Request
+ofOne letter a =
+    cond (eqb letter 0x4E) (wiring a)
+    (cond (eqb letter 0x52) (reading a)
+    (cond (eqb letter 0x47) (Run a)
+    (cond (eqb letter 0x58) (SetPosition a)
+    (cond (eqb letter 0x59) (SetLength a)
+    (cond (eqb letter 0x4B) (SetCount a)
+    Bad)))))
+
+unfoldable pub ofTwo : ℕ → ℕ → ℕ → Request
+ofTwo letter a b =
+    cond (eqb letter 0x50) (powering a b)
+    (cond (eqb letter 0x57) (loading a b)
+    (cond (eqb letter 0x56) (Show a b)
+    Bad))
+
+unfoldable pub ofThree : ℕ → ℕ → ℕ → ℕ → Request
+ofThree letter a b c = cond (eqb letter 0x46) (Fill a b c) Bad
+
+-- "an unknown letter, a missing or extra or too large number": an error of the script
+unfoldable pub requestOf : Line → Request
+requestOf l =
+    cond (l .bad) Bad
+    (cond (eqb (l .letter) 0x43) (cellsFrom (l .count) (getD (l .numbers) 0 0))
+    (cond (eqb (l .count) 0) (ofNone (l .letter))
+    (cond (eqb (l .count) 1) (ofOne (l .letter) (getD (l .numbers) 0 0))
+    (cond (eqb (l .count) 2) (ofTwo (l .letter) (getD (l .numbers) 0 0) (getD (l .numbers) 1 0))
+    (cond (eqb (l .count) 3)
+    (ofThree (l .letter) (getD (l .numbers) 0 0) (getD (l .numbers) 1 0) (getD (l .numbers) 2 0))
+    Bad)))))

@@ -1,0 +1,151 @@
+// What a line asks for: its letter, as many numbers as the letter takes, each within its bounds.
+ghost use mathlib.Core.Path.{_≡_};
+ghost use Rattle.script.specs.Requests.{powering, wiring, loading, reading, cellsFrom, ofNone, ofOne, ofTwo, ofThree, requestOf};
+use crate::lines::Line;
+
+pub enum Request {
+    // A line with nothing in it but a comment.
+    Nothing,
+    PowerOn { mfm: bool, length: u16 },
+    SetLines { bits: u8 },
+    Load { register: u8, byte: u8 },
+    Read { register: u8 },
+    ByteTime,
+    Run { limit: u16 },
+    SetPosition { position: u16 },
+    SetLength { length: u16 },
+    SetCount { count: u16 },
+    Fill { place: u16, count: u16, cell: u16 },
+    // The cells are the line's numbers behind its first.
+    SetCells { place: u16 },
+    Show { place: u16, count: u16 },
+    Swap,
+    Bad,
+}
+
+fn power_on(density: u16, length: u16) -> Request
+    ensures { λ r. ⌜ r ≡ powering density length ⌝ }
+{
+    if 1 < density {
+        return Request::Bad;
+    }
+    Request::PowerOn {
+        mfm: density == 1,
+        length,
+    }
+}
+
+fn set_lines(bits: u16) -> Request
+    ensures { λ r. ⌜ r ≡ wiring bits ⌝ }
+{
+    if 15 < bits {
+        return Request::Bad;
+    }
+    Request::SetLines { bits: bits as u8 }
+}
+
+fn load(register: u16, byte: u16) -> Request
+    ensures { λ r. ⌜ r ≡ loading register byte ⌝ }
+{
+    if 255 < register {
+        return Request::Bad;
+    }
+    if 255 < byte {
+        return Request::Bad;
+    }
+    Request::Load {
+        register: register as u8,
+        byte: byte as u8,
+    }
+}
+
+fn read(register: u16) -> Request
+    ensures { λ r. ⌜ r ≡ reading register ⌝ }
+{
+    if 255 < register {
+        return Request::Bad;
+    }
+    Request::Read {
+        register: register as u8,
+    }
+}
+
+// Line C names at least one cell behind its place; that it names no more than 64 the line has seen to.
+fn set_cells(count: usize, place: u16) -> Request
+    ensures { λ r. ⌜ r ≡ cellsFrom count place ⌝ }
+{
+    if count < 2 {
+        return Request::Bad;
+    }
+    Request::SetCells { place }
+}
+
+fn of_none(letter: u8) -> Request
+    ensures { λ r. ⌜ r ≡ ofNone letter ⌝ }
+{
+    match letter {
+        0 => Request::Nothing,
+        b'B' => Request::ByteTime,
+        b'U' => Request::Swap,
+        _ => Request::Bad,
+    }
+}
+
+fn of_one(letter: u8, a: u16) -> Request
+    ensures { λ r. ⌜ r ≡ ofOne letter a ⌝ }
+{
+    match letter {
+        b'N' => set_lines(a),
+        b'R' => read(a),
+        b'G' => Request::Run { limit: a },
+        b'X' => Request::SetPosition { position: a },
+        b'Y' => Request::SetLength { length: a },
+        b'K' => Request::SetCount { count: a },
+        _ => Request::Bad,
+    }
+}
+
+fn of_two(letter: u8, a: u16, b: u16) -> Request
+    ensures { λ r. ⌜ r ≡ ofTwo letter a b ⌝ }
+{
+    match letter {
+        b'P' => power_on(a, b),
+        b'W' => load(a, b),
+        b'V' => Request::Show { place: a, count: b },
+        _ => Request::Bad,
+    }
+}
+
+fn of_three(letter: u8, a: u16, b: u16, c: u16) -> Request
+    ensures { λ r. ⌜ r ≡ ofThree letter a b c ⌝ }
+{
+    match letter {
+        b'F' => Request::Fill {
+            place: a,
+            count: b,
+            cell: c,
+        },
+        _ => Request::Bad,
+    }
+}
+
+pub fn request_of(line: Line) -> Request
+    ensures { λ r. ⌜ r ≡ requestOf line ⌝ }
+{
+    let letter = line.letter;
+    let count = line.count;
+    let numbers = line.numbers;
+    if line.bad {
+        return Request::Bad;
+    }
+    if letter == b'C' {
+        return set_cells(count, numbers[0]);
+    }
+    match count {
+        0 => of_none(letter),
+        1 => of_one(letter, numbers[0]),
+        2 => of_two(letter, numbers[0], numbers[1]),
+        3 => of_three(letter, numbers[0], numbers[1], numbers[2]),
+        _ => Request::Bad,
+    }
+}

@@ -1,0 +1,2 @@
+-- The definitions that the contracts of `stepping` cite.
+pub mod Stepping

@@ -1,0 +1,73 @@
+-- `wd::Machine::begin` meets its contract, by its tests and its callees' contracts. Assumes nothing.
+use mathlib.Core.Path.{sym}
+use borrow.Author.Needs.{needs}
+use Rattle.wd.specs.Loads.{begunOf}
+use Rattle.wd.proofs.Machine.begin.Statement.{statement}
+use Rattle.wd.proofs.Machine.begin.Tie as tie
+
+kind-of-requires : tie.Need-kind-of-requires
+kind-of-requires c κs = search needs
+
+held-requires : tie.Need-held-requires
+held-requires c κs = search needs
+
+begin-regs-requires : tie.Need-begin-regs-requires
+begin-regs-requires c κs = search needs
+
+asks-requires : tie.Need-asks-requires
+asks-requires c κs = search needs
+
+begin-wires-requires : tie.Need-begin-wires-requires
+begin-wires-requires c κs = search needs
+
+busy-requires : tie.Need-busy-requires
+busy-requires c κs = search needs
+
+begin-flags-requires : tie.Need-begin-flags-requires
+begin-flags-requires c κs = search needs
+
+begin-head-requires : tie.Need-begin-head-requires
+begin-head-requires c κs = search needs
+
+begin-conditions-requires : tie.Need-begin-conditions-requires
+begin-conditions-requires c κs = search needs
+
+order-of-requires : tie.Need-order-of-requires
+order-of-requires c κs = search needs
+
+begin-activity-requires : tie.Need-begin-activity-requires
+begin-activity-requires c κs = search needs
+
+returns : tie.Need-returns
+unfolding begunOf
+returns c =
+    simp (
+      c .begin-activity .ensures,
+      c .before .order-of .ensures,
+      c .before .before .begin-conditions .ensures,
+      c .before .before .before .begin-head .ensures,
+      c .before .before .before .before .begin-flags .ensures,
+      sym (c .before .before .before .before .before .busy .ensures),
+      c .before .before .before .before .before .before .begin-wires .ensures,
+      sym (c .before .before .before .before .before .before .before .asks .ensures),
+      c .before .before .before .before .before .before .before .before .begin-regs .ensures,
+      sym (c .before .before .before .before .before .before .before .before .before .before .held .ensures),
+      c .before .before .before .before .before .before .before .before .before .before .before .kind-of .ensures,
+    )
+
+pub begin-spec : {M : Type 1} → statement M
+begin-spec =
+    tie.close
+    (tie.spec
+    kind-of-requires
+    held-requires
+    begin-regs-requires
+    asks-requires
+    begin-wires-requires
+    busy-requires
+    begin-flags-requires
+    begin-head-requires
+    begin-conditions-requires
+    order-of-requires
+    begin-activity-requires
+    returns)

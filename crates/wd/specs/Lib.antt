@@ -1,0 +1,7 @@
+-- The controller's calls, document 01 from "The ring of cells" to "Registers and commands". What it does in a byte time over
+-- one cell is the definition of the crate `act`, and what that does to its parts of the crate `chip`.
+pub mod Machines
+pub mod Reads
+pub mod Loads
+pub mod Turns
+pub mod Rows

@@ -1,0 +1,538 @@
+// The controller: registers, wires, flags, head, ring and activity of a WD1793, and the calls that a host makes of it.
+ghost use mathlib.Core.Path.{_≡_};
+ghost use Prim.Native.Nat.{_+_, _≤_, _<_};
+ghost use lib.ListN.{length};
+ghost use Rattle.wd.specs.Machines.{validOf, freshOf, poweredOf};
+ghost use Rattle.wd.specs.Reads.{statusOf, withBus, readOf};
+ghost use Rattle.chip.specs.Registers.{readRefusal, loadRefusal};
+ghost use Rattle.wd.specs.Loads.{begunOf, commandedOf, loadedOf};
+ghost use Rattle.wd.specs.Turns.{appliedOf, turnedOf, restedOf};
+ghost use Rattle.wd.specs.Rows.{rowRefusal, refusedAt, doneBy, passedOf, rowOf, stopsAt, tallied, pulseIn, countedOf, ranTo, emptyRun, runOf, runRowOf};
+use activity::Act;
+use activity::Activity;
+use activity::Deed;
+use chip::Conditions;
+use chip::Flags;
+use chip::Head;
+use chip::Lines;
+use chip::Past;
+use chip::Pulse;
+use chip::Regs;
+use chip::Ring;
+use chip::Status;
+use chip::Wires;
+use chip::accepting;
+use chip::deeds;
+use chip::registers;
+use chip::rings;
+use chip::status_byte;
+use order::Command;
+use order::Decoded;
+use order::Job;
+use order::Order;
+
+pub struct Machine {
+    pub ring: Ring,
+    pub mfm: bool,
+    pub regs: Regs,
+    pub wires: Wires,
+    pub flags: Flags,
+    pub head: Head,
+    pub past: Past,
+    pub conditions: Conditions,
+    pub order: Order,
+    pub activity: Activity,
+}
+
+// The answers: a number of document 01's table, 0 where the call was done, and the machine after the call.
+pub struct Started {
+    pub number: u8,
+    pub machine: Machine,
+}
+
+pub struct Loaded {
+    pub number: u8,
+    pub machine: Machine,
+}
+
+pub struct Read {
+    pub number: u8,
+    pub byte: u8,
+    pub machine: Machine,
+}
+
+pub struct Passed {
+    pub number: u8,
+    pub pulse: Pulse,
+    pub machine: Machine,
+}
+
+// Byte times that passed, and step pulses in and out.
+pub struct Tally {
+    pub passed: u16,
+    pub inward: u16,
+    pub outward: u16,
+}
+
+pub struct Ran {
+    pub number: u8,
+    pub tally: Tally,
+    pub machine: Machine,
+}
+
+// What a byte time makes of the machine and the cell, before it is handed back.
+pub struct Turn {
+    pub machine: Machine,
+    pub cell: u16,
+    pub pulse: Pulse,
+}
+
+fn refused(number: u8, machine: Machine) -> Passed
+    ensures { λ r. ⌜ r ≡ refusedAt number machine ⌝ }
+{
+    Passed {
+        number,
+        pulse: Pulse::Off,
+        machine,
+    }
+}
+
+fn done(turn: Turn) -> Passed
+    ensures { λ r. ⌜ r ≡ doneBy turn ⌝ }
+{
+    let machine = turn.machine;
+    let pulse = turn.pulse;
+    Passed {
+        number: 0,
+        pulse,
+        machine,
+    }
+}
+
+// A run goes no further behind this byte time.
+fn stops(passed: Passed) -> bool
+    ensures { λ r. ⌜ r ≡ stopsAt passed ⌝ }
+{
+    let machine = passed.machine;
+    let wires = machine.wires;
+    (passed.number != 0) | wires.drq | wires.intrq
+}
+
+// One byte time more; a refused one counts nothing.
+fn counted(tally: Tally, number: u8, pulse: Pulse) -> Tally
+    requires { ⌜ (tally .passed < 65535) × ((tally .inward ≤ tally .passed) × (tally .outward ≤ tally .passed)) ⌝ }
+    ensures { λ r. ⌜ r ≡ countedOf tally number pulse ⌝ }
+    ensures { λ r. ⌜ (r .passed ≤ tally .passed + 1) × ((r .inward ≤ r .passed) × (r .outward ≤ r .passed)) ⌝ }
+{
+    if number != 0 {
+        return tally;
+    }
+    match pulse {
+        Pulse::Off => Tally {
+            passed: tally.passed + 1,
+            inward: tally.inward,
+            outward: tally.outward,
+        },
+        Pulse::In => Tally {
+            passed: tally.passed + 1,
+            inward: tally.inward + 1,
+            outward: tally.outward,
+        },
+        Pulse::Out => Tally {
+            passed: tally.passed + 1,
+            inward: tally.inward,
+            outward: tally.outward + 1,
+        },
+    }
+}
+
+fn ran_to(tally: Tally, passed: Passed) -> Ran
+    requires { ⌜ (tally .passed < 65535) × ((tally .inward ≤ tally .passed) × (tally .outward ≤ tally .passed)) ⌝ }
+    ensures { λ r. ⌜ r ≡ ranTo tally passed ⌝ }
+    ensures { λ r. ⌜ (r .tally .passed ≤ tally .passed + 1) × ((r .tally .inward ≤ r .tally .passed) × (r .tally .outward ≤ r .tally .passed)) ⌝ }
+{
+    let machine = passed.machine;
+    let pulse = passed.pulse;
+    let count = counted(tally, passed.number, pulse);
+    Ran {
+        number: passed.number,
+        tally: count,
+        machine,
+    }
+}
+
+// The pulse of the one byte time that such counts are of.
+fn pulse_in(tally: Tally) -> Pulse
+    ensures { λ r. ⌜ r ≡ pulseIn tally ⌝ }
+{
+    if tally.inward == 1 {
+        return Pulse::In;
+    }
+    if tally.outward == 1 {
+        return Pulse::Out;
+    }
+    Pulse::Off
+}
+
+fn empty_run(number: u8, machine: Machine) -> Ran
+    ensures { λ r. ⌜ r ≡ emptyRun number machine ⌝ }
+{
+    Ran {
+        number,
+        tally: Tally {
+            passed: 0,
+            inward: 0,
+            outward: 0,
+        },
+        machine,
+    }
+}
+
+impl Machine {
+    fn fresh(length: u16, mfm: bool) -> Machine
+        ensures { λ r. ⌜ r ≡ freshOf length mfm ⌝ }
+    {
+        Machine {
+            ring: Ring {
+                length,
+                position: 0,
+            },
+            mfm,
+            regs: Regs {
+                tr: 0,
+                sr: 1,
+                dr: 0,
+            },
+            wires: Wires {
+                drq: false,
+                intrq: false,
+            },
+            flags: Flags {
+                type1: true,
+                protected: false,
+                deleted: false,
+                missing: false,
+                crc: false,
+                lost: false,
+            },
+            head: Head {
+                loaded: false,
+                inward: false,
+            },
+            past: Past {
+                ready: false,
+                index: false,
+            },
+            conditions: Conditions {
+                on: false,
+                off: false,
+                index: false,
+            },
+            order: Order {
+                job: Job::Nothing,
+                byte: 0,
+                inward: false,
+            },
+            activity: Activity::Idle,
+        }
+    }
+
+    // The machine at power-on, for a row of so many cells and a density.
+    pub fn power_on(length: u16, mfm: bool) -> Started
+        ensures { λ r. ⌜ r ≡ poweredOf length mfm ⌝ }
+    {
+        if rings::length_within(length) {
+            Started {
+                number: 0,
+                machine: Machine::fresh(length, mfm),
+            }
+        } else {
+            Started {
+                number: 1,
+                machine: Machine::fresh(2048, false),
+            }
+        }
+    }
+
+    // What refusal 2 asks.
+    fn valid(self) -> bool
+        ensures { λ r. ⌜ r ≡ validOf self ⌝ }
+    {
+        let ring = self.ring;
+        let activity = self.activity;
+        rings::ring_within(ring) & activity::within(activity)
+    }
+
+    // The status byte that a read would give under these lines; looking at it changes nothing.
+    pub fn status(self, lines: Lines) -> Status
+        ensures { λ r. ⌜ r ≡ statusOf self lines ⌝ }
+    {
+        let flags = self.flags;
+        let head = self.head;
+        let past = self.past;
+        let wires = self.wires;
+        let activity = self.activity;
+        let busy = activity::busy(activity);
+        if flags.type1 {
+            let varying = status_byte::of_type1(head.loaded & lines.hlt, past.index, lines);
+            return status_byte::status_of(varying, flags, busy, lines.ready);
+        }
+        let varying = status_byte::of_type2(flags, wires.drq);
+        status_byte::status_of(varying, flags, busy, lines.ready)
+    }
+
+    fn with_bus(self, regs: Regs, wires: Wires) -> Machine
+        ensures { λ r. ⌜ r ≡ withBus self regs wires ⌝ }
+    {
+        let mut machine = self;
+        machine.regs = regs;
+        machine.wires = wires;
+        machine
+    }
+
+    // Reads a register.
+    pub fn read_register(self, lines: Lines, number: u8) -> Read
+        ensures { λ r. ⌜ r ≡ readOf self lines number ⌝ }
+    {
+        let refusal = registers::read_refusal(self.valid(), number);
+        if refusal != 0 {
+            return Read {
+                number: refusal,
+                byte: 0,
+                machine: self,
+            };
+        }
+        let regs = self.regs;
+        let wires = self.wires;
+        let byte = registers::read_byte(regs, self.status(lines), number);
+        Read {
+            number: 0,
+            byte,
+            machine: self.with_bus(regs, registers::read_wires(wires, number)),
+        }
+    }
+
+    // An accepted command. Types II and III look: not ready ends it at once, and next a write under protection.
+    fn begin(self, lines: Lines, byte: u8, command: Command) -> Machine
+        ensures { λ r. ⌜ r ≡ begunOf self lines byte command ⌝ }
+    {
+        let ring = self.ring;
+        let regs = self.regs;
+        let wires = self.wires;
+        let flags = self.flags;
+        let head = self.head;
+        let past = self.past;
+        let activity = self.activity;
+        let kind = order::kind_of(command);
+        let held = accepting::held(command, lines);
+        let ends = held | !lines.ready;
+        Machine {
+            ring,
+            mfm: self.mfm,
+            regs: accepting::begin_regs(regs, byte),
+            wires: accepting::begin_wires(
+                wires,
+                accepting::asks(command) & !ends,
+                ends,
+                byte,
+                kind,
+            ),
+            flags: accepting::begin_flags(flags, held, activity::busy(activity), kind),
+            head: accepting::begin_head(head, ends, byte, kind),
+            past,
+            conditions: accepting::begin_conditions(byte, kind),
+            order: order::order_of(command, byte, head.inward),
+            activity: accepting::begin_activity(ends, self.mfm, byte, kind),
+        }
+    }
+
+    fn command(self, lines: Lines, byte: u8, decoded: Decoded) -> Loaded
+        ensures { λ r. ⌜ r ≡ commandedOf self lines byte decoded ⌝ }
+    {
+        match decoded {
+            Decoded::Taken(command) => Loaded {
+                number: 0,
+                machine: self.begin(lines, byte, command),
+            },
+            Decoded::NoCommand => Loaded {
+                number: 7,
+                machine: self,
+            },
+        }
+    }
+
+    // Loads a register.
+    pub fn load_register(self, lines: Lines, number: u8, byte: u8) -> Loaded
+        ensures { λ r. ⌜ r ≡ loadedOf self lines number byte ⌝ }
+    {
+        let activity = self.activity;
+        let refusal = registers::load_refusal(self.valid(), activity::busy(activity), number, byte);
+        if refusal != 0 {
+            return Loaded {
+                number: refusal,
+                machine: self,
+            };
+        }
+        if number == 0 {
+            return self.command(lines, byte, order::decode(byte));
+        }
+        let regs = self.regs;
+        let wires = self.wires;
+        Loaded {
+            number: 0,
+            machine: self.with_bus(
+                registers::load_regs(regs, number, byte),
+                registers::load_wires(wires, number),
+            ),
+        }
+    }
+
+    fn applied(self, act: Act, ready: bool, index: bool) -> Machine
+        ensures { λ r. ⌜ r ≡ appliedOf self act ready index ⌝ }
+    {
+        let deed = act.deed;
+        let next = act.next;
+        let ring = self.ring;
+        let regs = self.regs;
+        let wires = self.wires;
+        let flags = self.flags;
+        let head = self.head;
+        let past = self.past;
+        let conditions = self.conditions;
+        let order = self.order;
+        let activity = self.activity;
+        let ended = activity::busy(activity) & !activity::busy(next);
+        let told = rings::told(conditions, past.ready, ready, index);
+        Machine {
+            ring: rings::next(ring),
+            mfm: self.mfm,
+            regs: deeds::regs_after(regs, deed),
+            wires: Wires {
+                drq: deeds::drq_after(wires.drq, deed),
+                intrq: wires.intrq | told | ended,
+            },
+            flags: deeds::flags_after(flags, wires.drq, deed),
+            head: deeds::head_after(head, deed),
+            past: Past { ready, index },
+            conditions,
+            order,
+            activity: next,
+        }
+    }
+
+    // Where nothing happens but that the ring turns.
+    fn rested(self, ready: bool, index: bool) -> Machine
+        ensures { λ r. ⌜ r ≡ restedOf self ready index ⌝ }
+    {
+        let ring = self.ring;
+        let wires = self.wires;
+        let past = self.past;
+        let conditions = self.conditions;
+        let told = rings::told(conditions, past.ready, ready, index);
+        let turned = rings::next(ring);
+        let wires_after = Wires {
+            drq: wires.drq,
+            intrq: wires.intrq | told,
+        };
+        let seen = Past { ready, index };
+        let mut machine = self;
+        machine.ring = turned;
+        machine.wires = wires_after;
+        machine.past = seen;
+        machine
+    }
+
+    fn turn(self, lines: Lines, cell: u16) -> Turn
+        ensures { λ r. ⌜ r ≡ turnedOf self lines cell ⌝ }
+    {
+        let ring = self.ring;
+        let regs = self.regs;
+        let wires = self.wires;
+        let order = self.order;
+        let activity = self.activity;
+        let index = ring.position == 0;
+        if act::rests(index, cell, activity) {
+            return Turn {
+                machine: self.rested(lines.ready, index),
+                cell,
+                pulse: Pulse::Off,
+            };
+        }
+        let seen = rings::look(self.mfm, ring, regs, wires.drq, lines, cell);
+        let act = act::turn(order, seen, activity);
+        let deed = act.deed;
+        Turn {
+            machine: self.applied(act, lines.ready, seen.index),
+            cell: act.cell,
+            pulse: deeds::pulse_of(deed),
+        }
+    }
+
+    // What refusals 2 and 3 ask.
+    fn row_refusal(self, length: usize) -> u8
+        ensures { λ r. ⌜ r ≡ rowRefusal self length ⌝ }
+    {
+        let ring = self.ring;
+        if self.valid() {
+            if length == ring.length as usize { 0 } else { 3 }
+        } else {
+            2
+        }
+    }
+
+    // The cell under the head passes. Whoever calls has looked at refusals 2 and 3.
+    fn pass(self, lines: Lines, row: &mut [u16]) -> Passed
+        requires { ⌜ rowRefusal self (length (now row)) ≡ 0 ⌝ }
+        ensures { λ r. ⌜ (r ≡ passedOf self lines (now (row .entry))) × (now (row .exit) ≡ rowOf self lines (now (row .entry))) ⌝ }
+    {
+        let ring = self.ring;
+        let position = ring.position as usize;
+        let cell = row[position];
+        if 511 < cell {
+            return refused(4, self);
+        }
+        let turn = self.turn(lines, cell);
+        row[position] = turn.cell;
+        done(turn)
+    }
+
+    // Byte times up to a limit, to the first that ends with DRQ or INTRQ on. A byte time keeps a valid machine valid and
+    // the row's length, so refusals 2 and 3 are looked at once.
+    pub fn run(self, lines: Lines, limit: u16, row: &mut [u16]) -> Ran
+        ensures { λ r. ⌜ (r ≡ runOf self lines limit (now (row .entry))) × (now (row .exit) ≡ runRowOf self lines limit (now (row .entry))) ⌝ }
+    {
+        let refusal = self.row_refusal(row.len());
+        if refusal != 0 {
+            return empty_run(refusal, self);
+        }
+        let mut ran = empty_run(0, self);
+        let mut left = limit;
+        while 0 < left {
+            let machine = ran.machine;
+            let tally = ran.tally;
+            let passed = machine.pass(lines, row);
+            let next = ran_to(tally, passed);
+            if stops(passed) {
+                return next;
+            }
+            ran = next;
+            left -= 1;
+        }
+        ran
+    }
+
+    // One byte time over the lent row: a run of one. So a byte time has one place where it is made, which keeps the machine
+    // in registers there.
+    pub fn byte_time(self, lines: Lines, row: &mut [u16]) -> Passed
+        ensures { λ r. ⌜ (r ≡ passedOf self lines (now (row .entry))) × (now (row .exit) ≡ rowOf self lines (now (row .entry))) ⌝ }
+    {
+        let ran = self.run(lines, 1, row);
+        let tally = ran.tally;
+        let machine = ran.machine;
+        Passed {
+            number: ran.number,
+            pulse: pulse_in(tally),
+            machine,
+        }
+    }
+}

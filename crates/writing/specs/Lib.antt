@@ -1,0 +1,2 @@
+-- The definitions that the contracts of `writing` cite.
+pub mod Writing

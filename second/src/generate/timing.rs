@@ -1,0 +1,163 @@
+// Scenes whose outcome hangs on a single byte time, and chains of sectors for m.
+
+use super::serving::Host;
+use super::{Generator, Sector, HEAD_LOADED, READY};
+
+/// Commands whose search begins with a byte time that a scene can reckon: Types II and III with E
+/// and without, and Seek with V from the right track.
+const BEGINNINGS: [u8; 12] = [
+    0x80, 0xA0, 0xC0, 0x84, 0xA4, 0xC4, 0xE0, 0xF0, 0xE4, 0xF4, 0x14, 0x1C,
+];
+
+/// Commands and length codes; the long records are rarer, since each byte takes two lines.
+pub const RECORDS: [(u8, u8); 16] = [
+    (0x80, 0),
+    (0xA0, 0),
+    (0x80, 1),
+    (0xA1, 1),
+    (0x80, 0),
+    (0xA1, 0),
+    (0x80, 2),
+    (0xA0, 2),
+    (0x80, 0),
+    (0xA0, 0),
+    (0x80, 1),
+    (0xA0, 1),
+    (0x80, 0),
+    (0xA1, 0),
+    (0x80, 3),
+    (0xA1, 3),
+];
+
+impl Generator {
+    /// A sound record of some length, its mark well inside the window or at its end or just past
+    /// it, read or written by a host that is always in time.
+    pub fn record_scene(&mut self, record: (u8, u8)) {
+        let (byte, code) = record;
+        let window = self.plan.density.window();
+        let mark_at = match code {
+            0 => self.random.pick(&[15, window, window + 1]),
+            _ => 15,
+        };
+        let number = self.random.byte();
+        let place = self.random.below(self.plan.length);
+        let sector = Sector {
+            code,
+            mark_at,
+            ..Sector::short(number)
+        };
+        self.lay_sector(place, sector);
+        self.ask_for(number);
+        self.set_wires(READY | HEAD_LOADED);
+        self.put_head(place);
+        self.load(0, byte);
+        self.serve(Host::Prompt, 1200);
+        self.end_command();
+    }
+
+    /// The head stands so that the search begins with the first cell of an ID, or a track command
+    /// with the index pulse; or with the cell before it, or the cell behind it.
+    pub fn beginning_scene(&mut self) {
+        let byte = self.random.pick(&BEGINNINGS);
+        let for_index = matches!(byte, 0xE0 | 0xE4 | 0xF0 | 0xF4);
+        let place = if for_index {
+            self.plan.length
+        } else {
+            self.random.between(20, self.plan.length - 200)
+        };
+        if !for_index {
+            let number = self.random.byte();
+            self.lay_sector(place, Sector::short(number));
+            self.ask_for(number);
+        }
+        self.load(3, self.plan.track);
+        self.set_wires(READY | HEAD_LOADED);
+        let off = self.random.pick(&[0, 0, 1, 2]);
+        let before = self.byte_times_before_search(byte);
+        self.put_head(place + self.plan.length + 1 - off - before);
+        if self.random.one_in(3) {
+            self.begin_with_head_late(byte, before);
+        } else {
+            self.load(0, byte);
+        }
+        self.serve(Host::Prompt, 12);
+        self.end_command();
+    }
+
+    /// Byte times that pass before the first one of the search: settling, and for a verify the
+    /// one that decides to stop.
+    fn byte_times_before_search(&self, byte: u8) -> usize {
+        let settle = usize::from(self.plan.density.settle_time());
+        match byte {
+            0x14 | 0x1C => 1 + settle,
+            _ if byte & 4 != 0 => settle,
+            _ => 0,
+        }
+    }
+
+    /// HLT comes on just as the settling ends.
+    fn begin_with_head_late(&mut self, byte: u8, before: usize) {
+        self.set_wires(READY);
+        self.load(0, byte);
+        let early = self.random.below(2).min(before);
+        self.go(before - early);
+        self.set_wires(READY | HEAD_LOADED);
+    }
+
+    /// A write whose first byte comes just in time or just too late: before byte time 10 of Write
+    /// Sector, or before the first pulse of Write Track.
+    pub fn late_write_scene(&mut self) {
+        self.set_wires(READY | HEAD_LOADED);
+        let waiting = if self.random.one_in(3) {
+            self.put_head(self.plan.length - 4);
+            self.load(0, 0xF0);
+            self.random.between(2, 5)
+        } else {
+            let place = self.random.below(self.plan.length);
+            let number = self.random.byte();
+            self.lay_sector(place, Sector::short(number));
+            self.ask_for(number);
+            self.put_head(place);
+            self.load(0, 0xA0);
+            self.go(60);
+            self.random.between(6, 9)
+        };
+        for _ in 0..waiting {
+            self.byte_time();
+        }
+        let byte = self.random.byte();
+        self.load(3, byte);
+        self.serve(Host::Slow, 60);
+        self.end_command();
+    }
+
+    /// Sectors one behind the other with either mark or no data mark, some with a bad data CRC,
+    /// read or written with m.
+    pub fn chain_scene(&mut self) {
+        let first: u8 = self.random.pick(&[1, 9, 254, 255]);
+        let place = self.random.below(self.plan.length);
+        for step in 0..3u8 {
+            let start = place + 200 * usize::from(step);
+            let sector = Sector {
+                mark: self.random.pick(&[0xFB, 0xFB, 0xF8, 0xF8, 0xFA]),
+                ..Sector::short(first.wrapping_add(step))
+            };
+            self.lay_sector(start, sector);
+            if self.random.one_in(3) {
+                let spoilt = (start + 100) % self.plan.length;
+                let cell = self.bench.current[spoilt] ^ 1;
+                self.set_cells(spoilt, &[cell]);
+            }
+        }
+        self.ask_for(first);
+        self.set_wires(READY | HEAD_LOADED);
+        self.put_head(place + self.plan.length - 5);
+        let byte = self.random.pick(&[0x90, 0x90, 0x92, 0xB0, 0xB1]);
+        self.load(0, byte);
+        let host = self
+            .random
+            .pick(&[Host::Prompt, Host::Prompt, Host::Absent]);
+        self.serve(host, 500);
+        self.end_command();
+    }
+}
