@@ -1,6 +1,6 @@
 -- The arms `_` of a `match` on activities: what a definition gives at each that has no arm of its own. Assumes nothing.
 use mathlib.Core.Path.{_≡_, refl}
-use mathlib.Core.Bool.{Bool, false}
+use mathlib.Core.Bool.{Bool}
 use mathlib.Core.List.{List, [], _∷_}
 use Prim.Native.Nat.{ℕ}
 use denote.Enum.Declared.{tagOf}
@@ -10,13 +10,12 @@ use Rattle.activity.proofs.Activity.{the-type}
 use Rattle.activity.specs.declared.Activity.{Activity}
 use Rattle.activity.specs.declared.Activity.the-variants.{Idle, Seek, Pulse, Stop, Settle, Search, Window, Data, Hunt, Address, Await, TrackRead, Preamble, Put, Format, FormatCrc}
 use Rattle.act.specs.Turns.{settledOf, enteredOf}
-use Rattle.act.specs.Rests.{restsIn}
 
 -- an activity is one of those with these numbers
 abbrev pub Among : List ℕ → Activity → Type 0
 Among numbers a = OneOf numbers (tagOf the-type a)
 
-abbrev all-but-settle : List ℕ
+abbrev pub all-but-settle : List ℕ
 all-but-settle = 0 ∷ 1 ∷ 2 ∷ 3 ∷ 5 ∷ 6 ∷ 7 ∷ 8 ∷ 9 ∷ 10 ∷ 11 ∷ 12 ∷ 13 ∷ 14 ∷ 15 ∷ []
 
 pub settled-else :
@@ -65,25 +64,3 @@ entered-else job index drq (Preamble left passed) h = refl
 entered-else job index drq (Put left crc) h = refl
 entered-else job index drq (Format crc) h = refl
 entered-else job index drq (FormatCrc crc) h = refl
-
-abbrev neither-idle-nor-search : List ℕ
-neither-idle-nor-search = 1 ∷ 2 ∷ 3 ∷ 4 ∷ 6 ∷ 7 ∷ 8 ∷ 9 ∷ 10 ∷ 11 ∷ 12 ∷ 13 ∷ 14 ∷ 15 ∷ []
-
-pub rests-else : (index : Bool) (cell : ℕ) (a : Activity) → Among neither-idle-nor-search a → false ≡ restsIn index cell a
-unfolding restsIn
-rests-else index cell Idle h = absurd (miss neither-idle-nor-search 0 tt h)
-rests-else index cell (Seek left) h = refl
-rests-else index cell Pulse h = refl
-rests-else index cell (Stop left) h = refl
-rests-else index cell (Settle left) h = refl
-rests-else index cell (Search pulses scan) h = absurd (miss neither-idle-nor-search 5 tt h)
-rests-else index cell (Window left passed run) h = refl
-rests-else index cell (Data left crc deleted) h = refl
-rests-else index cell (Hunt pulses run) h = refl
-rests-else index cell (Address passed crc track) h = refl
-rests-else index cell Await h = refl
-rests-else index cell TrackRead h = refl
-rests-else index cell (Preamble left passed) h = refl
-rests-else index cell (Put left crc) h = refl
-rests-else index cell (Format crc) h = refl
-rests-else index cell (FormatCrc crc) h = refl

@@ -5,4 +5,3 @@ pub mod StepWithin
 pub mod FieldWithin
 pub mod WithinKept
 pub mod Quiet
-pub mod Resting

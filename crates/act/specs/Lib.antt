@@ -1,3 +1,2 @@
 -- One byte time: what begins in it, and what the activity does then.
 pub mod Turns
-pub mod Rests

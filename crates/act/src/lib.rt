@@ -1,7 +1,6 @@
 // What the controller does in a byte time, over one cell: its order, its activity and what it sees give an act.
 ghost use mathlib.Core.Path.{_≡_};
 ghost use Rattle.act.specs.Turns.{begunOf, openedOf, settledOf, enteredOf, settlingOf, awaitingOf, reactedOf, actOf};
-ghost use Rattle.act.specs.Rests.{emptyGap, restsIn};
 use activity::Act;
 use activity::Activity;
 use activity::Deed;
@@ -148,24 +147,4 @@ pub fn turn(o: Order, s: Seen, activity: Activity) -> Act
         s,
         entered(job, s.index, s.drq, settled(job, s.hlt, activity)),
     )
-}
-
-fn empty_gap(scan: Scan) -> bool
-    ensures { λ r. ⌜ r ≡ emptyGap scan ⌝ }
-{
-    match scan {
-        Scan::Gap(run) => run == 0,
-        Scan::Field(_) => false,
-    }
-}
-
-// Nothing happens in this byte time but that the ring turns. Most byte times are such, so callers ask this first.
-pub fn rests(index: bool, cell: u16, activity: Activity) -> bool
-    ensures { λ r. ⌜ r ≡ restsIn index cell activity ⌝ }
-{
-    match activity {
-        Activity::Idle => true,
-        Activity::Search(pulses, scan) => !index & (cell < 256) & (pulses < 5) & empty_gap(scan),
-        _ => false,
-    }
 }

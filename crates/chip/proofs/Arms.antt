@@ -11,7 +11,6 @@ use Rattle.activity.specs.declared.Deed.the-variants.{Nothing, Deliver, Named, 
 use Rattle.chip.specs.declared.Regs.{Regs}
 use Rattle.chip.specs.declared.Flags.{Flags}
 use Rattle.chip.specs.declared.Head.{Head}
-use Rattle.chip.specs.declared.Pulse.{Pulse}
 use Rattle.chip.specs.declared.Pulse.the-variants as pulse
 use Rattle.chip.specs.Deeds.{regsAfter, drqAfter, flagsAfter, headAfter, pulseOf}
 

@@ -1,7 +1,7 @@
 -- What the low half of the register adds goes through a byte's eight bits untouched, so a byte's step is a table's word of
 -- the high half and the low half beside it. Assumes nothing.
 use mathlib.Core.Path.{_≡_, sym, ap, ap₂, _∙_}
-use Prim.Native.Nat.{ℕ, zero, suc, _+_, _*_, _/_, _%_, _^_, _<_, _≤_}
+use Prim.Native.Nat.{ℕ, zero, suc, _+_, _*_, _/_, _%_, _^_, _<_}
 use native.Mathlib.Nat.{mod-eq-of-lt, div-eq-of-lt, mod-lt, mul-le-mul-right}
 use native.Mathlib.Omega.{arith}
 use lib.Bits.{bitXor, xor-zero-r, xor-shr, xor-mod, xor-block, xor-shifted}

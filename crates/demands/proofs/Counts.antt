@@ -15,7 +15,7 @@ use Rattle.wd.specs.declared.Passed.{Passed}
 use Rattle.chip.specs.Rings.{nextOf}
 use Rattle.wd.specs.Turns.{appliedOf, turnedOf}
 use Rattle.wd.specs.Rows.{rowRefusal, under, refusedAt, doneBy, passedOf, rowOf, emptyRun, Run, runsOn, runFrom, runOf, runRowOf}
-use Rattle.wd.proofs.Valid.{next-length, open-row, valid-ring}
+use Rattle.wd.proofs.Valid.{next-length, next-inside, open-row, valid-ring}
 use Rattle.wd.proofs.Runs.{at}
 use Rattle.demands.specs.ByteTimes.{turnsOn, machineAfter, rowAfter, numberAfter, Stops, by-limit, by-wire, by-cell}
 use Rattle.demands.proofs.Runs.{run-makes}
@@ -45,16 +45,6 @@ ring-after zero m l row accepted = refl
 ring-after (suc n) m l row accepted =
     ring-after n (passedOf m l row .machine) l (rowOf m l row) (λ k h. accepted (suc k) (omega arith))
     ∙ ap (turnsOn n) (passed-ring m l row (accepted 0 (omega arith)))
-
-next-inside : (r : Ring) → r .position < r .length → nextOf r .position < r .length
-unfolding nextOf
-next-inside r h =
-    by-cond (λ (q : Ring). q .position < r .length) (ltb (r .position) (r .length))
-    (λ low.
-    by-cond (λ (q : Ring). q .position < r .length) (eqb (r .position + 1) (r .length))
-    (λ e. omega arith)
-    (λ e. let apart : (r .position + 1 ≡ r .length) → ⊥ = eqb-false _ _ e in omega arith))
-    (λ high. h)
 
 next-mod : (n : ℕ) (r : Ring) → r .position < r .length → (nextOf r .position + n) % r .length ≡ (r .position + suc n) % r .length
 unfolding nextOf

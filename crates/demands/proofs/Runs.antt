@@ -7,7 +7,7 @@ use native.Mathlib.Omega.{arith}
 use lib.Dec.{ltb, eqb}
 use lib.ListN.{length}
 use borrow.Author.Tests.{eqb-true, eqb-false, eq-eqb, ne-eqb}
-use Rattle.common.proofs.Cases.{by-cond, never}
+use Rattle.common.proofs.Cases.{by-cond}
 use Rattle.chip.specs.declared.Lines.{Lines}
 use Rattle.wd.specs.declared.Machine.{Machine}
 use Rattle.chip.specs.declared.Pulse.{Pulse}
@@ -17,6 +17,7 @@ use Rattle.wd.specs.declared.Tally.{Tally}
 use Rattle.wd.specs.Rows.{rowRefusal, under, refusedAt, doneBy, passedOf, rowOf, tallied, countedOf, ranTo, emptyRun, stopsAt, Run, nextIn, onward, runsOn, runFrom, runOf}
 use Rattle.wd.proofs.Valid.{pass-open}
 use Rattle.wd.proofs.Runs.{at, open-run}
+use Rattle.wd.proofs.Stretches.{goes-on}
 use Rattle.demands.specs.ByteTimes.{machineAfter, rowAfter, numberAfter, calls, Stops, by-limit, by-wire, by-cell, Makes}
 use Rattle.demands.proofs.AsGiven.{byte-time-machine, byte-time-row}
 
@@ -155,14 +156,6 @@ module _ (limit : ℕ) (l : Lines) (r : Run) (opens : rowRefusal (r .ran .machin
     },
   )
 
-goes-on : (p : Passed) → stopsAt p ≡ false → (p .number ≡ 0) × (calls (p .machine) ≡ false)
-unfolding stopsAt
-goes-on p e = by (eqb (p .number) 0) refl
-  where
-    by : (b : Bool) → eqb (p .number) 0 ≡ b → (p .number ≡ 0) × (calls (p .machine) ≡ false)
-    by true d = (eqb-true _ _ d, rw d at e)
-    by false d = let z : true ≡ false = rw d at e in never (cc)
-
 makes : (limit : ℕ) (l : Lines) (r : Run)
     → rowRefusal (r .ran .machine) (length (r .row)) ≡ 0
     → r .ran .number ≡ 0
@@ -174,7 +167,7 @@ makes (suc limit) l r opens z =
     (makes-last limit l r opens)
     (λ e.
     let on = goes-on (nextIn l r) e in
-    makes-more limit l r opens (runsOn limit l (onward l r)) (on .0) (on .1)
+    makes-more limit l r opens (runsOn limit l (onward l r)) (on .0) (simp (on .1, on .2))
     (makes limit l (onward l r) (pass-open (r .ran .machine) l (r .row) opens) (on .0)))
 
 -- a run that begins with no count tells how many it makes

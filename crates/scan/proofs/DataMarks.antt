@@ -1,10 +1,9 @@
 -- The scanner for data marks says that one ends at a cell, and which, exactly when the 1 (FM) or 4 (MFM) cells that passed
 -- last, all since the scan began, are that one. Assumes nothing.
 use mathlib.Core.Path.{_≡_, refl, sym, ap, _∙_}
-use mathlib.Core.Bool.{Bool, true, false, cond}
+use mathlib.Core.Bool.{Bool}
 use mathlib.Core.Logic.{_↔_}
 use Prim.Native.Nat.{ℕ, zero, suc}
-use native.Mathlib.Omega.{arith}
 use lib.Dec.{eqb}
 use borrow.Author.Tests.{eqb-true}
 use Rattle.common.proofs.Cases.{by-cond, never}
@@ -12,8 +11,7 @@ use Rattle.scan.specs.declared.Passed.{Passed}
 use Rattle.scan.specs.declared.Passed.the-variants.{Gap, Mark}
 use Rattle.scan.specs.declared.DataMark.{DataMark}
 use Rattle.scan.specs.declared.DataMark.the-variants.{Fb, F8}
-use Rattle.scan.specs.declared.Sought.{Sought}
-use Rattle.scan.specs.declared.Sought.the-variants.{On, Met}
+use Rattle.scan.specs.declared.Sought.the-variants.{Met}
 use Rattle.scan.specs.Marks.{passedOf}
 use Rattle.scan.specs.DataMarks.{markByte, dataMarkOf, dataMarkIn, soughtOf}
 use Rattle.scan.specs.Streams.{MarkEnds, runPast, runAfter, passedAt, soughtPast, soughtAfter, soughtAt}

@@ -10,7 +10,7 @@ use Rattle.scan.specs.declared.Id.{Id}
 use Rattle.scan.specs.declared.Part.{Part}
 use Rattle.scan.specs.declared.Scan.the-variants.{Gap, Field}
 use Rattle.scan.specs.declared.Heard.the-variants.{Whole}
-use Rattle.scan.specs.Marks.{byteOf, flagged, unflagged, leadOf, carriesMark, passedOf}
+use Rattle.scan.specs.Marks.{byteOf, leadOf, carriesMark, passedOf}
 use Rattle.scan.specs.Ids.{begunOf, addedOf, runIn, grownOf, lookedOf, heardOf}
 use Rattle.scan.specs.Streams.{MarkEnds, behind, IdAt, scanPast, scanAfter, heardAt}
 use Rattle.scan.proofs.Marks.{marks}

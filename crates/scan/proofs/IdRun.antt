@@ -1,6 +1,6 @@
 -- The scanner for IDs counts the row of flagged A1 cells as the scanner for marks does. Assumes nothing.
 use mathlib.Core.Path.{_≡_, refl, sym, ap, _∙_}
-use mathlib.Core.Bool.{Bool, true, false, cond, _&&_}
+use mathlib.Core.Bool.{Bool, true, _&&_}
 use Prim.Native.Nat.{ℕ, zero, suc}
 use native.Mathlib.Omega.{arith}
 use lib.Dec.{ltb, leb, eqb}
@@ -10,9 +10,8 @@ use Rattle.scan.specs.declared.Passed.the-variants.{Mark}
 use Rattle.scan.specs.declared.Part.{Part}
 use Rattle.scan.specs.declared.Scan.{Scan}
 use Rattle.scan.specs.declared.Scan.the-variants.{Gap, Field}
-use Rattle.scan.specs.declared.Heard.the-variants.{On, Whole}
-use Rattle.scan.specs.Marks.{byteOf, unflagged, sync, leadOf, carriesMark, runOf, passedOf, markCrc}
-use Rattle.scan.specs.Ids.{begunOf, pushedOf, wholeOf, addedOf, runIn, grownOf, lookedOf, heardOf}
+use Rattle.scan.specs.Marks.{byteOf, unflagged, sync, leadOf, carriesMark, runOf, passedOf}
+use Rattle.scan.specs.Ids.{begunOf, addedOf, runIn, grownOf, lookedOf, heardOf}
 use Rattle.scan.specs.Streams.{runPast, runAfter, scanPast, scanAfter}
 use Rattle.common.proofs.Cases.{by-cond, never}
 

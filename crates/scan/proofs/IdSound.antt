@@ -1,6 +1,6 @@
 -- What the scanner for IDs holds has passed, so a whole ID that it says ends here does. Assumes nothing.
 use mathlib.Core.Path.{_≡_, refl, sym, ap, ap₂, _∙_}
-use mathlib.Core.Bool.{Bool, true, false, cond}
+use mathlib.Core.Bool.{Bool, true}
 use Prim.Native.Nat.{ℕ, zero, suc, _+_, _≤_, _<_}
 use native.Mathlib.Numerals.{add-one}
 use native.Mathlib.Decide.{decLt}
@@ -13,8 +13,8 @@ use Rattle.scan.specs.declared.Id.{Id}
 use Rattle.scan.specs.declared.Part.{Part}
 use Rattle.scan.specs.declared.Scan.{Scan}
 use Rattle.scan.specs.declared.Scan.the-variants.{Gap, Field}
-use Rattle.scan.specs.declared.Heard.the-variants.{On, Whole}
-use Rattle.scan.specs.Marks.{byteOf, unflagged, passedOf, markCrc}
+use Rattle.scan.specs.declared.Heard.the-variants.{Whole}
+use Rattle.scan.specs.Marks.{byteOf, unflagged, passedOf}
 use Rattle.scan.specs.Ids.{begunOf, pushedOf, wholeOf, addedOf, runIn, grownOf, lookedOf, heardOf}
 use Rattle.scan.specs.Streams.{MarkAt, MarkEnds, behind, IdAt, idFrom, passedAt, scanPast, scanAfter, heardAt}
 use Rattle.scan.proofs.Marks.{marks}

@@ -7,7 +7,6 @@ use mathlib.Core.Logic.{_↔_}
 use Prim.Native.Nat.{ℕ}
 use Rattle.scan.specs.declared.Id.{Id}
 use Rattle.scan.specs.declared.Heard.the-variants.{Whole}
-use Rattle.scan.specs.Marks.{unflagged}
 use Rattle.scan.specs.Streams.{heardAt}
 use Rattle.scan.specs.Streams.{IdEnds}
 use Rattle.scan.proofs.IdSound.{sound}

@@ -1,18 +1,17 @@
 -- The scanner for marks says that a mark ends at a cell exactly when the 1 (FM) or 4 (MFM) cells that passed last, all since
 -- the scan began, are one. Assumes nothing.
 use mathlib.Core.Path.{_≡_, refl, sym, ap, _∙_}
-use mathlib.Core.Bool.{Bool, true, false, cond, _&&_, false≢true}
+use mathlib.Core.Bool.{Bool, true, false, cond, _&&_}
 use mathlib.Core.Logic.{_↔_}
 use Prim.Native.Nat.{ℕ, zero, suc, _+_, _/_, _%_, _≤_, _<_}
-use native.Mathlib.Nat.{add-zero, mod-eq-of-lt}
+use native.Mathlib.Nat.{add-zero}
 use native.Mathlib.Decide.{decLt}
 use native.Mathlib.Omega.{arith}
 use lib.Dec.{ltb, leb, eqb}
 use borrow.Author.Tests.{ltb-true, ltb-false, leb-true, eqb-true, eqb-false, lt-ltb, le-leb, eq-eqb, ne-eqb}
 use Rattle.common.proofs.Cases.{by-cond, never, both}
-use Rattle.scan.specs.declared.Passed.{Passed}
-use Rattle.scan.specs.declared.Passed.the-variants.{Gap, Mark}
-use Rattle.scan.specs.Marks.{byteOf, flagged, unflagged, sync, leadOf, carriesMark, runOf, passedOf}
+use Rattle.scan.specs.declared.Passed.the-variants.{Mark}
+use Rattle.scan.specs.Marks.{byteOf, unflagged, sync, leadOf, carriesMark, runOf, passedOf}
 use Rattle.scan.specs.Streams.{MarkAt, MarkEnds, runPast, runAfter, passedAt}
 
 -- the j cells from a on are flagged A1s

@@ -1,6 +1,6 @@
 -- The search for an ID, document 01, "Fields". Assumes nothing.
 use mathlib.Core.Bool.{Bool, true, false, cond, not, _&&_, _||_}
-use Prim.Native.Nat.{ℕ, _+_, _/_, _%_}
+use Prim.Native.Nat.{ℕ, _+_}
 use lib.Dec.{ltb, leb, eqb}
 use Rattle.scan.specs.Ids.{heardOf}
 use Rattle.scan.specs.declared.Id.{Id}

@@ -1,5 +1,5 @@
 -- What the proofs of `wd` share, and its laws for the crates above.
 pub mod Valid
 pub mod Runs
-pub mod Resting
+pub mod Stretches
 pub mod Once

@@ -1,11 +1,11 @@
 -- What refusals 2 and 3 let through, and that a byte time keeps it: a valid machine and a row of its length. Assumes nothing.
-use mathlib.Core.Path.{_≡_, refl, sym, ap, _∙_}
-use mathlib.Core.Bool.{Bool, true, false, cond, _&&_}
+use mathlib.Core.Path.{_≡_, refl, sym, _∙_}
+use mathlib.Core.Bool.{true, _&&_}
 use mathlib.Core.List.{List}
-use Prim.Native.Nat.{ℕ, suc, _+_, _≤_, _<_}
+use Prim.Native.Nat.{ℕ, _+_, _≤_, _<_}
 use native.Mathlib.Omega.{arith}
 use lib.Dec.{ltb, leb, eqb}
-use lib.ListN.{length, set, length-set}
+use lib.ListN.{length, length-set}
 use borrow.Author.Tests.{ltb-true, leb-true, eqb-true, eqb-false, lt-ltb, le-leb, eq-eqb}
 use Rattle.common.proofs.Cases.{by-cond, both, all}
 use Rattle.activity.specs.Limits.{countsWithin}
@@ -37,24 +37,30 @@ pub held-ring : (r : Ring) → Held r → ringWithin r ≡ true
 unfolding ringWithin lengthWithin
 held-ring r h = all (all (le-leb _ _ (h .least)) (le-leb _ _ (h .most))) (lt-ltb _ _ (h .inside))
 
-next-held : (r : Ring) → Held r → Held (nextOf r)
-unfolding nextOf
-next-held r h =
-    by-cond Held (ltb (r .position) (r .length))
-    (λ low.
-    by-cond Held (eqb (r .position + 1) (r .length))
-    (λ e. record { least = h .least; most = h .most; inside = omega (arith, h .least) })
-    (λ e.
-    let apart : (r .position + 1 ≡ r .length) → ⊥ = eqb-false (r .position + 1) (r .length) e in
-    record { least = h .least; most = h .most; inside = omega (arith, h .inside) }))
-    (λ high. h)
-
 pub next-length : (r : Ring) → nextOf r .length ≡ r .length
 unfolding nextOf
 next-length r =
     by-cond (λ (q : Ring). q .length ≡ r .length) (ltb (r .position) (r .length))
     (λ low. by-cond (λ (q : Ring). q .length ≡ r .length) (eqb (r .position + 1) (r .length)) (λ e. refl) (λ e. refl))
     (λ high. refl)
+
+pub next-inside : (r : Ring) → r .position < r .length → nextOf r .position < r .length
+unfolding nextOf
+next-inside r h =
+    by-cond (λ (q : Ring). q .position < r .length) (ltb (r .position) (r .length))
+    (λ low.
+    by-cond (λ (q : Ring). q .position < r .length) (eqb (r .position + 1) (r .length))
+    (λ e. omega arith)
+    (λ e. let apart : (r .position + 1 ≡ r .length) → ⊥ = eqb-false _ _ e in omega arith))
+    (λ high. h)
+
+next-held : (r : Ring) → Held r → Held (nextOf r)
+next-held r h =
+    record {
+      least = rw (next-length r) (h .least);
+      most = rw (next-length r) (h .most);
+      inside = rw (next-length r) (next-inside r (h .inside));
+    }
 
 -- ---- the machine
 

@@ -5,3 +5,4 @@ pub mod Reads
 pub mod Loads
 pub mod Turns
 pub mod Rows
+pub mod Stretches

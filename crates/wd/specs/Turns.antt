@@ -47,22 +47,3 @@ turnedOf m l cell =
       cell = doesOf m l cell .cell;
       pulse = pulseOf (doesOf m l cell .deed);
     }
-
--- the machine behind a byte time in which nothing happens but that the ring turns: what `appliedOf` comes to then
-unfoldable pub restedOf : Machine → Bool → Bool → Machine
-restedOf m ready index =
-    record {
-      ring = nextOf (m .ring);
-      mfm = m .mfm;
-      regs = m .regs;
-      wires = record {
-        drq = m .wires .drq;
-        intrq = m .wires .intrq || toldOf (m .conditions) (m .past .ready) ready index;
-      };
-      flags = m .flags;
-      head = m .head;
-      past = record { ready = ready; index = index };
-      conditions = m .conditions;
-      order = m .order;
-      activity = m .activity;
-    }

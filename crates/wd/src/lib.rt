@@ -6,7 +6,9 @@ ghost use Rattle.wd.specs.Machines.{validOf, freshOf, poweredOf};
 ghost use Rattle.wd.specs.Reads.{statusOf, withBus, readOf};
 ghost use Rattle.chip.specs.Registers.{readRefusal, loadRefusal};
 ghost use Rattle.wd.specs.Loads.{begunOf, commandedOf, loadedOf};
-ghost use Rattle.wd.specs.Turns.{appliedOf, turnedOf, restedOf};
+ghost use Rattle.wd.specs.Turns.{appliedOf, turnedOf};
+ghost use Rattle.stretch.specs.Stretches.{aheadOf};
+ghost use Rattle.wd.specs.Stretches.{stretchedOf, ranOn};
 ghost use Rattle.wd.specs.Rows.{rowRefusal, refusedAt, doneBy, passedOf, rowOf, stopsAt, tallied, pulseIn, countedOf, ranTo, emptyRun, runOf, runRowOf};
 use activity::Act;
 use activity::Activity;
@@ -185,6 +187,27 @@ fn empty_run(number: u8, machine: Machine) -> Ran
             outward: 0,
         },
         machine,
+    }
+}
+
+// A run behind a stretch.
+fn ran_on(ran: Ran, passed: u16, ready: bool) -> Ran
+    requires { ⌜ (ran .tally .passed + passed < 65536) × (ran .machine .ring .position + passed < 65536) ⌝ }
+    ensures { λ r. ⌜ r ≡ ranOn ran passed ready ⌝ }
+{
+    if passed == 0 {
+        return ran;
+    }
+    let tally = ran.tally;
+    let machine = ran.machine;
+    Ran {
+        number: ran.number,
+        tally: Tally {
+            passed: tally.passed + passed,
+            inward: tally.inward,
+            outward: tally.outward,
+        },
+        machine: machine.stretched(passed, ready),
     }
 }
 
@@ -420,28 +443,6 @@ impl Machine {
         }
     }
 
-    // Where nothing happens but that the ring turns.
-    fn rested(self, ready: bool, index: bool) -> Machine
-        ensures { λ r. ⌜ r ≡ restedOf self ready index ⌝ }
-    {
-        let ring = self.ring;
-        let wires = self.wires;
-        let past = self.past;
-        let conditions = self.conditions;
-        let told = rings::told(conditions, past.ready, ready, index);
-        let turned = rings::next(ring);
-        let wires_after = Wires {
-            drq: wires.drq,
-            intrq: wires.intrq | told,
-        };
-        let seen = Past { ready, index };
-        let mut machine = self;
-        machine.ring = turned;
-        machine.wires = wires_after;
-        machine.past = seen;
-        machine
-    }
-
     fn turn(self, lines: Lines, cell: u16) -> Turn
         ensures { λ r. ⌜ r ≡ turnedOf self lines cell ⌝ }
     {
@@ -450,14 +451,6 @@ impl Machine {
         let wires = self.wires;
         let order = self.order;
         let activity = self.activity;
-        let index = ring.position == 0;
-        if act::rests(index, cell, activity) {
-            return Turn {
-                machine: self.rested(lines.ready, index),
-                cell,
-                pulse: Pulse::Off,
-            };
-        }
         let seen = rings::look(self.mfm, ring, regs, wires.drq, lines, cell);
         let act = act::turn(order, seen, activity);
         let deed = act.deed;
@@ -496,8 +489,52 @@ impl Machine {
         done(turn)
     }
 
+    // The byte times of a stretch that come next.
+    fn ahead(self, limit: u16, row: &mut [u16]) -> u16
+        ensures { λ r. ⌜ (r ≡ aheadOf (self .ring) (self .activity) limit (now (row .entry))) × (now (row .exit) ≡ now (row .entry)) ⌝ }
+        ensures { λ r. ⌜ r ≤ limit ⌝ }
+    {
+        let ring = self.ring;
+        let activity = self.activity;
+        stretch::ahead(ring, activity, limit, row)
+    }
+
+    // The machine behind so many of them.
+    fn stretched(self, passed: u16, ready: bool) -> Machine
+        requires { ⌜ self .ring .position + passed < 65536 ⌝ }
+        ensures { λ r. ⌜ r ≡ stretchedOf self passed ready ⌝ }
+    {
+        let ring = self.ring;
+        let regs = self.regs;
+        let wires = self.wires;
+        let flags = self.flags;
+        let head = self.head;
+        let conditions = self.conditions;
+        let order = self.order;
+        let activity = self.activity;
+        Machine {
+            ring: Ring {
+                length: ring.length,
+                position: ring.position + passed,
+            },
+            mfm: self.mfm,
+            regs,
+            wires,
+            flags,
+            head,
+            past: Past {
+                ready,
+                index: false,
+            },
+            conditions,
+            order,
+            activity: stretch::later(passed, activity),
+        }
+    }
+
     // Byte times up to a limit, to the first that ends with DRQ or INTRQ on. A byte time keeps a valid machine valid and
-    // the row's length, so refusals 2 and 3 are looked at once.
+    // the row's length, so refusals 2 and 3 are looked at once; and behind one that has not stopped the run, those in which
+    // nothing happens are passed at once.
     pub fn run(self, lines: Lines, limit: u16, row: &mut [u16]) -> Ran
         ensures { λ r. ⌜ (r ≡ runOf self lines limit (now (row .entry))) × (now (row .exit) ≡ runRowOf self lines limit (now (row .entry))) ⌝ }
     {
@@ -515,8 +552,11 @@ impl Machine {
             if stops(passed) {
                 return next;
             }
-            ran = next;
             left -= 1;
+            let moved = next.machine;
+            let stretch = moved.ahead(left, row);
+            ran = ran_on(next, stretch, lines.ready);
+            left -= stretch;
         }
         ran
     }

@@ -1,6 +1,6 @@
 -- `crc::step` meets its contract: the table is the 256 words of the rule, by one computation, and a byte's step is a word
 -- and the low half beside it. Assumes nothing.
-use mathlib.Core.Path.{_≡_, ap, sym, _∙_}
+use mathlib.Core.Path.{ap, sym, _∙_}
 use Prim.Native.Nat.{ℕ, _*_, _/_, _%_, _<_}
 use native.Mathlib.Omega.{arith}
 use lib.Bits.{bitXor, xor-lt}

@@ -1,13 +1,14 @@
 -- `wd::Machine::run` meets its contract: what is left to run from here is what was left at the start, and what may pass once
 -- may pass again, so refusals 2 and 3 are looked at once. Assumes nothing.
 use mathlib.Core.Path.{_∙_, sym, ap}
-use Prim.Native.Nat.{ℕ}
+use Prim.Native.Nat.{ℕ, _-_}
 use native.Mathlib.Omega.{arith}
 use denote.Ref.{now}
 use borrow.Author.Needs.{needs}
 use Rattle.wd.specs.declared.Ran.{Ran}
 use Rattle.wd.specs.Rows.{emptyRun, Run, runsOn}
 use Rattle.wd.proofs.Runs.{at, refused-run, open-run, no-more, Along, starts, ends, again}
+use Rattle.wd.proofs.Stretches.{stretch-fits, stretch-along}
 use Rattle.wd.proofs.Machine.run.Statement.{statement}
 use Rattle.wd.proofs.Machine.run.Tie as tie
 
@@ -69,15 +70,38 @@ returns-2 c =
 sub-left : tie.Need-sub-left Inv-loop μ-loop
 sub-left c = search needs
 
+ahead-requires : tie.Need-ahead-requires Inv-loop μ-loop
+ahead-requires c κs = search needs
+
+ran-on-requires : tie.Need-ran-on-requires Inv-loop μ-loop
+ran-on-requires c κs =
+    let a = c .before .before .before .before .before .before .before .before .before .before .before .before .before .before .before .before .before .before .before .before .args in
+    let k = c .before .before .before .before .before .before .before .before .before .before .before .before .before .before .before .loop in
+    let p = c .before .before .before .before .before .before .before .before .before .before .pass in
+    let r = c .before .before .before .before .before .before .before .ran-to in
+    let s = c .before .before .ahead in
+    let on = sym (c .before .before .before .before .before .before .stops .ensures) ∙ c .before .before .before .before .before .if2 .left in
+    let start = at (c .before .before .before .before .before .before .before .before .before .before .before .before .before .before .before .before .empty-run2 .result) (now (a .row)) in
+    let v = again (a .lines) (k .ran) (k .row) (p .result) (p .last .1 .1 .0) (r .result) (p .ensures .0) (p .ensures .1) (r .ensures .0) (a .limit) start (k .left) (k .inv) (c .before .before .before .before .before .before .before .before .before .before .before .before .before .before .loop-test .taken) on (r .ensures .1) in
+    (omega (arith, v .room, s .ensures .1), stretch-fits (a .lines) (k .ran) (k .row) (p .result) (r .result) (p .last .1 .1 .0) (p .ensures .0) (r .ensures .0) on (a .limit) start (k .left - 1) v (s .result) (s .ensures .0 .0))
+
+sub-left-2 : tie.Need-sub-left-2 Inv-loop μ-loop
+sub-left-2 c = search needs
+
 loop-less : tie.Need-loop-less Inv-loop μ-loop
-loop-less c = search needs
+loop-less c = omega (arith, c .before .before .before .before .before .before .before .before .before .before .before .before .before .before .before .loop-test .taken)
 
 loop-again : tie.Need-loop-again Inv-loop μ-loop
 loop-again c =
-    let a = c .before .before .before .before .before .before .before .before .before .before .before .before .before .before .before .args in
-    let k = c .before .before .before .before .before .before .before .before .before .before .loop in
-    let p = c .before .before .before .before .before .pass in
-    again (a .lines) (k .ran) (k .row) (p .result) (p .last .1 .1 .0) (c .before .before .ran-to .result) (p .ensures .0) (p .ensures .1) (c .before .before .ran-to .ensures .0) (a .limit) (at (c .before .before .before .before .before .before .before .before .before .before .before .empty-run2 .result) (now (a .row))) (k .left) (k .inv) (c .before .before .before .before .before .before .before .before .before .loop-test .taken) (sym (c .before .stops .ensures) ∙ c .if2 .left) (c .before .before .ran-to .ensures .1)
+    let a = c .before .before .before .before .before .before .before .before .before .before .before .before .before .before .before .before .before .before .before .before .before .args in
+    let k = c .before .before .before .before .before .before .before .before .before .before .before .before .before .before .before .before .loop in
+    let p = c .before .before .before .before .before .before .before .before .before .before .before .pass in
+    let r = c .before .before .before .before .before .before .before .before .ran-to in
+    let s = c .before .before .before .ahead in
+    let on = sym (c .before .before .before .before .before .before .before .stops .ensures) ∙ c .before .before .before .before .before .before .if2 .left in
+    let start = at (c .before .before .before .before .before .before .before .before .before .before .before .before .before .before .before .before .before .empty-run2 .result) (now (a .row)) in
+    let v = again (a .lines) (k .ran) (k .row) (p .result) (p .last .1 .1 .0) (r .result) (p .ensures .0) (p .ensures .1) (r .ensures .0) (a .limit) start (k .left) (k .inv) (c .before .before .before .before .before .before .before .before .before .before .before .before .before .before .before .loop-test .taken) on (r .ensures .1) in
+    stretch-along (a .lines) (k .ran) (k .row) (p .result) (r .result) (p .last .1 .1 .0) (p .ensures .0) (r .ensures .0) on (a .limit) start (k .left - 1) v (s .result) (s .ensures .0 .0) (s .ensures .1) (c .ran-on .result) (s .last .1 .1 .0) (c .ran-on .ensures) (s .ensures .0 .1)
 
 same-length-2 : tie.Need-same-length-2 Inv-loop μ-loop
 same-length-2 c = c .before .loop .inv .same
@@ -108,6 +132,9 @@ run-spec =
     same-length
     returns-2
     sub-left
+    ahead-requires
+    ran-on-requires
+    sub-left-2
     loop-less
     loop-again
     same-length-2

@@ -1,8 +1,8 @@
--- `act::empty_gap` meets its contract, by its tests and its callees' contracts. Assumes nothing.
+-- `stretch::empty_gap` meets its contract, by its tests and its callees' contracts. Assumes nothing.
 use borrow.Author.Needs.{needs}
-use Rattle.act.proofs.empty_gap.Statement.{statement}
-use Rattle.act.specs.Rests.{emptyGap}
-use Rattle.act.proofs.empty_gap.Tie as tie
+use Rattle.stretch.proofs.empty_gap.Statement.{statement}
+use Rattle.stretch.specs.Stretches.{emptyGap}
+use Rattle.stretch.proofs.empty_gap.Tie as tie
 
 enum-known-scan : tie.Need-enum-known-scan
 enum-known-scan c = search needs

@@ -1,0 +1,127 @@
+-- A byte time of a stretch does nothing: the activity is one byte time later, the cell stays, and there is no deed. This ties
+-- stretches to what a byte time is. Assumes nothing.
+use mathlib.Core.Path.{_≡_, refl, ap}
+use mathlib.Core.Bool.{Bool, true, false, _&&_}
+use Prim.Native.Nat.{ℕ, suc, _-_, _<_}
+use native.Mathlib.Omega.{arith}
+use lib.Dec.{ltb}
+use borrow.Author.Tests.{ltb-true, ltb-false, eqb-true, lt-leb, ne-eqb}
+use Rattle.common.proofs.Cases.{by-cond, both, never}
+use Rattle.scan.specs.Ids.{runIn, grownOf, lookedOf, heardOf}
+use Rattle.scan.specs.declared.Scan.{Scan}
+use Rattle.scan.specs.declared.Scan.the-variants.{Gap, Field}
+use Rattle.scan.specs.declared.Heard.the-variants as heard
+use Rattle.scan.proofs.IdComplete.{plain-gap}
+use Rattle.order.specs.declared.Order.{Order}
+use Rattle.activity.specs.Acts.{pass}
+use Rattle.activity.specs.Limits.{busyIn}
+use Rattle.activity.specs.declared.Seen.{Seen}
+use Rattle.activity.specs.declared.Activity.{Activity}
+use Rattle.activity.specs.declared.Activity.the-variants.{Idle, Seek, Pulse, Stop, Settle, Search, Window, Data, Hunt, Address, Await, TrackRead, Preamble, Put, Format, FormatCrc}
+use Rattle.activity.specs.declared.Deed.the-variants.{Nothing}
+use Rattle.search.specs.Search.{pulsesOf, hearsOf, searchedOf}
+use Rattle.act.specs.Turns.{settledOf, enteredOf, settlingOf, reactedOf, actOf}
+use Rattle.stretch.specs.declared.Reach.{Reach}
+use Rattle.stretch.specs.Stretches.{leastOf, emptyGap, searchReach, reachOf, laterOf}
+
+least-left : (a b : ℕ) (k : ℕ) → k < leastOf a b → k < a
+unfolding leastOf
+least-left a b k =
+    by-cond (λ (n : ℕ). k < n → k < a) (ltb a b) (λ e h. h) (λ e h. let g = ltb-false a b e in omega arith)
+
+empty : (scan : Scan) → emptyGap scan ≡ true → scan ≡ Gap 0
+unfolding emptyGap
+empty (Gap run) e = ap Gap (eqb-true run 0 e)
+empty (Field part) e = never (cc)
+
+-- an unflagged cell in a gap
+heard-gap : (mfm : Bool) (cell : ℕ) → cell < 256 → heardOf mfm cell (Gap 0) ≡ heard.On (Gap 0)
+unfolding heardOf runIn lookedOf grownOf
+heard-gap mfm cell h = rw (plain-gap mfm cell h)
+
+module _ (o : Order) (s : Seen) (none : s .index ≡ false) where
+  searched-still : (pulses : ℕ) (scan : Scan) → (ltb pulses 5 && emptyGap scan) ≡ true → s .cell < 256
+      → searchedOf o s pulses scan ≡ pass s (Search pulses scan) Nothing
+  unfolding searchedOf pulsesOf hearsOf
+  searched-still pulses scan e plain =
+      let h = both (ltb pulses 5) (emptyGap scan) e in
+      rw (empty scan (h .1), none, lt-leb 5 pulses (ltb-true pulses 5 (h .0))) (rw (heard-gap (s .mfm) (s .cell) plain))
+
+  search-still : (limit k pulses : ℕ) (scan : Scan)
+      → k < searchReach limit pulses scan .most
+      → s .cell < searchReach limit pulses scan .below
+      → searchedOf o s pulses scan ≡ pass s (Search pulses scan) Nothing
+  unfolding searchReach
+  search-still limit k pulses scan =
+      by-cond
+      (λ (r : Reach). k < r .most → s .cell < r .below → searchedOf o s pulses scan ≡ pass s (Search pulses scan) Nothing)
+      (ltb pulses 5 && emptyGap scan)
+      (λ e h plain. searched-still pulses scan e plain)
+      (λ e h plain. absurd (omega arith))
+
+  settle-still : (left k : ℕ) → k < left → actOf o s (Settle (left - k)) ≡ pass s (Settle (left - suc k)) Nothing
+  unfolding actOf settledOf enteredOf reactedOf settlingOf
+  settle-still left k h =
+      let some : (left - k ≡ 0) → ⊥ = λ z. absurd (omega arith) in
+      let less : left - k - 1 ≡ left - suc k = omega arith in
+      rw (ne-eqb (left - k) 0 some) (rw (ne-eqb (left - k) 0 some, less))
+
+  pub act-still : (a : Activity) (limit k : ℕ) → k < reachOf limit a .most → s .cell < reachOf limit a .below
+      → actOf o s (laterOf k a) ≡ pass s (laterOf (suc k) a) Nothing
+  unfolding actOf settledOf enteredOf reactedOf reachOf laterOf
+  act-still Idle limit k h below = refl
+  act-still (Settle left) limit k h below = settle-still left k (least-left left limit k h)
+  act-still (Search pulses scan) limit k h below = search-still limit k pulses scan h below
+  act-still (Seek left) limit k h below = absurd (omega arith)
+  act-still Pulse limit k h below = absurd (omega arith)
+  act-still (Stop left) limit k h below = absurd (omega arith)
+  act-still (Window left passed run) limit k h below = absurd (omega arith)
+  act-still (Data left crc deleted) limit k h below = absurd (omega arith)
+  act-still (Hunt pulses run) limit k h below = absurd (omega arith)
+  act-still (Address passed crc track) limit k h below = absurd (omega arith)
+  act-still Await limit k h below = absurd (omega arith)
+  act-still TrackRead limit k h below = absurd (omega arith)
+  act-still (Preamble left passed) limit k h below = absurd (omega arith)
+  act-still (Put left crc) limit k h below = absurd (omega arith)
+  act-still (Format crc) limit k h below = absurd (omega arith)
+  act-still (FormatCrc crc) limit k h below = absurd (omega arith)
+
+-- a stretch ends no command
+pub busy-later : (k : ℕ) (a : Activity) → busyIn (laterOf k a) ≡ busyIn a
+unfolding busyIn laterOf
+busy-later k Idle = refl
+busy-later k (Seek left) = refl
+busy-later k Pulse = refl
+busy-later k (Stop left) = refl
+busy-later k (Settle left) = refl
+busy-later k (Search pulses scan) = refl
+busy-later k (Window left passed run) = refl
+busy-later k (Data left crc deleted) = refl
+busy-later k (Hunt pulses run) = refl
+busy-later k (Address passed crc track) = refl
+busy-later k Await = refl
+busy-later k TrackRead = refl
+busy-later k (Preamble left passed) = refl
+busy-later k (Put left crc) = refl
+busy-later k (Format crc) = refl
+busy-later k (FormatCrc crc) = refl
+
+-- a stretch of none
+pub later-none : (a : Activity) → laterOf 0 a ≡ a
+unfolding laterOf
+later-none Idle = refl
+later-none (Seek left) = refl
+later-none Pulse = refl
+later-none (Stop left) = refl
+later-none (Settle left) = ap Settle (omega arith)
+later-none (Search pulses scan) = refl
+later-none (Window left passed run) = refl
+later-none (Data left crc deleted) = refl
+later-none (Hunt pulses run) = refl
+later-none (Address passed crc track) = refl
+later-none Await = refl
+later-none TrackRead = refl
+later-none (Preamble left passed) = refl
+later-none (Put left crc) = refl
+later-none (Format crc) = refl
+later-none (FormatCrc crc) = refl

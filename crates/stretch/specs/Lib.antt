@@ -1,0 +1,2 @@
+-- The definitions that the contracts of `stretch` cite.
+pub mod Stretches
