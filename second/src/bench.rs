@@ -12,9 +12,6 @@ use crate::viewer::{self, Wanted};
 const ROOM: usize = LONGEST_TRACK as usize;
 /// Cells that one line C may name.
 const MOST_CELLS: usize = 64;
-/// Whether line Q, the viewer, is carried out. Until the viewer lands it is an error of the
-/// script, for the bench and for the generator alike.
-const VIEWER_HAS_LANDED: bool = false;
 /// The largest value of the four drive lines.
 const ALL_LINES: u16 = 0xF;
 
@@ -24,18 +21,13 @@ pub struct Bench {
     /// The row that is lent to B and G.
     pub current: Vec<u16>,
     pub other: Vec<u16>,
-    /// Whether line Q is carried out.
-    pub viewer: bool,
+    /// How many byte times have passed in all; no line prints it.
+    pub byte_times: u64,
 }
 
 /// Everything that a script prints.
 pub fn run(script: &[u8]) -> Vec<u8> {
-    run_on(Bench::new(), script)
-}
-
-/// Everything that a script prints when it works this bench.
-pub fn run_on(bench: Bench, script: &[u8]) -> Vec<u8> {
-    let mut bench = bench;
+    let mut bench = Bench::new();
     let mut output = String::new();
     for (index, bytes) in script.split(|&byte| byte == b'\n').enumerate() {
         let printed = match script::parse(bytes) {
@@ -64,15 +56,7 @@ impl Bench {
             lines: Lines::default(),
             current: row.clone(),
             other: row,
-            viewer: VIEWER_HAS_LANDED,
-        }
-    }
-
-    /// A bench that carries out line Q, landed or not.
-    pub fn with_viewer() -> Bench {
-        Bench {
-            viewer: true,
-            ..Bench::new()
+            byte_times: 0,
         }
     }
 
@@ -92,7 +76,7 @@ impl Bench {
             (b'C', [place, cells @ ..]) => self.set_cells(*place, cells),
             (b'V', &[place, count]) => self.show(place, count),
             (b'U', &[]) => Some(self.change_rows()),
-            (b'Q', &[density, track, sector]) if self.viewer => self.view(density, track, sector),
+            (b'Q', &[density, track, sector]) => self.view(density, track, sector),
             _ => None,
         }
     }
@@ -165,6 +149,7 @@ impl Bench {
             .clone()
             .byte_time(&mut self.current, self.lines);
         self.machine = answer.machine;
+        self.byte_times += u64::from(answer.number == number::DONE);
         let pulse = match answer.pulse {
             None => 0,
             Some(Direction::In) => 1,
@@ -179,6 +164,7 @@ impl Bench {
             .clone()
             .run(&mut self.current, self.lines, limit);
         self.machine = answer.machine;
+        self.byte_times += u64::from(answer.passed);
         format!(
             "G {:02X} {:04X} {:04X} {:04X} {}",
             answer.number,

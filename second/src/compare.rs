@@ -42,7 +42,7 @@ pub fn compare_seeds(arguments: &[String], plural: &str, case: fn(u64) -> Case) 
     };
     let mut differences = 0;
     for seed in order.from..order.to {
-        match compare_seed(seed, order.command, case(seed)) {
+        match compare_case(seed, order.command, &case(seed)) {
             Ok(same) => differences += usize::from(!same),
             Err(error) => {
                 eprintln!("seed {}: {}: {}", seed, order.command[0], error);
@@ -52,6 +52,11 @@ pub fn compare_seeds(arguments: &[String], plural: &str, case: fn(u64) -> Case) 
     }
     let count = order.to.saturating_sub(order.from);
     println!("{} {}, {} differences", count, plural, differences);
+    exit_code(differences)
+}
+
+/// 0 where nothing differs, 1 where something does.
+pub fn exit_code(differences: usize) -> ExitCode {
     if differences > 0 {
         ExitCode::FAILURE
     } else {
@@ -70,8 +75,10 @@ fn parse(arguments: &[String]) -> Option<Order<'_>> {
     }
 }
 
-fn compare_seed(seed: u64, command: &[String], case: Case) -> io::Result<bool> {
-    let received = output_of(command, case.input)?;
+/// Whether the command prints what the seed's case expects; where it does not, the first
+/// difference is told.
+pub fn compare_case(seed: u64, command: &[String], case: &Case) -> io::Result<bool> {
+    let received = output_of(command, case.input.clone())?;
     match first_difference(&case.expected, &received) {
         None => Ok(true),
         Some(difference) => {

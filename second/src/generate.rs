@@ -1,10 +1,14 @@
 // Bench scripts made from a seed while the model runs, so that each line suits the machine.
 
 mod commands;
+mod edges;
 mod forcing;
 mod formatting;
 mod refusing;
 mod serving;
+mod soaking;
+mod sparse;
+mod stretching;
 mod timing;
 mod viewing;
 
@@ -15,12 +19,15 @@ use crate::layout;
 use crate::random::Random;
 use crate::script::{self, Parsed};
 use crate::tracks::{self, Plan};
+use edges::Obstacle;
 
 /// Cells that one line C may name.
 const CELLS_PER_LINE: usize = 64;
 /// Equal cells from which on a line F is shorter than lines C.
 const FILL_FROM: usize = 16;
 const NO_LIMIT: usize = 0xFFFF;
+/// One seed in so many gives a script of long waits.
+const LONG_WAITS_ONE_IN: u64 = 6;
 
 const READY: u8 = 1;
 const PROTECT: u8 = 2;
@@ -79,24 +86,51 @@ struct Generator {
     /// The drive lines as the script last named them.
     wires: u8,
     plan: Plan,
+    /// The cells that a scene has changed for a while, the latest last.
+    obstacles: Vec<Obstacle>,
+}
+
+/// A script for the soak.
+pub struct LongScript {
+    pub text: String,
+    /// How many byte times pass in it.
+    pub byte_times: u64,
 }
 
 /// The script of a seed.
 pub fn script(seed: u64) -> String {
-    script_on(seed, Bench::new())
-}
-
-/// The script of a seed for this bench; it has lines Q where the bench carries them out.
-pub fn script_on(seed: u64, bench: Bench) -> String {
-    let mut generator = Generator::new(seed, bench);
+    let mut generator = Generator::new(seed, Bench::new());
     let enough = generator.random.between(300, 2000);
     generator.begin();
     generator.take_turns(seed);
-    while generator.line_count < enough {
-        generator.scene();
+    if has_long_waits(seed) {
+        generator.stretch();
+    } else {
+        while generator.line_count < enough {
+            generator.scene();
+        }
     }
     generator.finish();
     generator.script
+}
+
+/// Whether the seed's script is one of long waits, cut into runs.
+pub fn has_long_waits(seed: u64) -> bool {
+    seed % LONG_WAITS_ONE_IN == LONG_WAITS_ONE_IN - 1
+}
+
+/// The script of a seed in which at least so many byte times pass.
+pub fn long_script(seed: u64, byte_times: u64) -> LongScript {
+    let mut generator = Generator::new(seed, Bench::new());
+    generator.begin();
+    while generator.bench.byte_times < byte_times {
+        generator.soaking_scene();
+    }
+    generator.finish();
+    LongScript {
+        text: generator.script,
+        byte_times: generator.bench.byte_times,
+    }
 }
 
 impl Generator {
@@ -115,6 +149,7 @@ impl Generator {
                 first_sector: 1,
                 bad_ids: 8,
             },
+            obstacles: Vec::new(),
         }
     }
 
@@ -171,13 +206,17 @@ impl Generator {
 
     /// The last cells of all, so that every write is compared; then at times a bad line.
     fn finish(&mut self) {
-        for place in (0..self.bench.current.len()).step_by(CELLS_PER_LINE) {
-            let count = CELLS_PER_LINE.min(self.bench.current.len() - place);
-            self.say(format!("V {:X} {:X}", place, count));
-        }
+        self.show_row();
         if self.random.one_in(4) {
             let bad = self.random.pick(&BAD_LINES);
             self.script.push_str(&format!("{}\nU\n", bad));
+        }
+    }
+
+    fn show_row(&mut self) {
+        for place in (0..self.bench.current.len()).step_by(CELLS_PER_LINE) {
+            let count = CELLS_PER_LINE.min(self.bench.current.len() - place);
+            self.say(format!("V {:X} {:X}", place, count));
         }
     }
 
@@ -321,6 +360,13 @@ impl Generator {
 
     /// Lays a sector with a good ID and a good data CRC from a place on.
     fn lay_sector(&mut self, place: usize, sector: Sector) {
+        let cells = self.sector_cells(sector);
+        let mut laid = self.bench.current.clone();
+        layout::put(&mut laid, place, &cells);
+        self.lay(&laid);
+    }
+
+    fn sector_cells(&mut self, sector: Sector) -> Vec<u16> {
         let density = self.plan.density;
         let bytes = [self.plan.track, 0, sector.number, sector.code];
         let data = self.random.bytes(128 << sector.code);
@@ -328,9 +374,7 @@ impl Generator {
         let gap = sector.mark_at - field::mark_length(density);
         cells.resize(cells.len() + gap, layout::gap(density));
         cells.extend(layout::field_cells(density, sector.mark, &data));
-        let mut laid = self.bench.current.clone();
-        layout::put(&mut laid, place, &cells);
-        self.lay(&laid);
+        cells
     }
 
     /// Loads TR and SR for a sector of the track.

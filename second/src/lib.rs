@@ -2,7 +2,8 @@
 //
 // The controller is `machine` with the files of its commands (`positioning`, `search`, `reading`,
 // `writing`); it decides what passes by looking back at lists of cells (`field`). `bench` works it
-// from a script, `generate` makes scripts from seeds, and `compare` holds another program to it.
+// from a script, `generate` makes scripts from seeds, `compare` holds another program to it, and
+// `soak` does so until millions of byte times have passed.
 // `picture`, `viewer` and `list` are document 01's pictures and viewer, `vectors` its CRC vectors.
 
 #![forbid(unsafe_code)]
@@ -27,6 +28,7 @@ pub mod random;
 mod reading;
 pub mod script;
 mod search;
+pub mod soak;
 pub mod status;
 pub mod tracks;
 pub mod vectors;

@@ -37,6 +37,16 @@ pub fn parse(bytes: &[u8]) -> Parsed {
     }
 }
 
+/// The lines of a script that print something, with their numbers.
+pub fn printing_lines(script: &str) -> Vec<String> {
+    script
+        .lines()
+        .enumerate()
+        .filter(|(_, text)| parse(text.as_bytes()) != Parsed::Empty)
+        .map(|(index, text)| format!("script line {}: {}", index + 1, text))
+        .collect()
+}
+
 /// "Every number is hexadecimal, 1 to 4 digits, upper or lower case."
 fn number(word: &[u8]) -> Option<u16> {
     if word.len() > MOST_DIGITS {

@@ -98,7 +98,7 @@ fn missing_and_extra_numbers_are_errors() {
         ("X", 1),
         ("Y", 1),
     ];
-    let rows = [("K", 1), ("F", 3), ("V", 2), ("U", 0)];
+    let rows = [("K", 1), ("F", 3), ("V", 2), ("U", 0), ("Q", 3)];
     for (letter, count) in counts.iter().chain(rows.iter()) {
         for given in 0..5 {
             let line = format!("{}{}", letter, " 1".repeat(given));
@@ -108,13 +108,8 @@ fn missing_and_extra_numbers_are_errors() {
 }
 
 #[test]
-fn the_viewer_is_an_error_for_now() {
-    assert_eq!(printed("Q 0 0 1\n"), "error 1\n");
-}
-
-#[test]
 fn bytes_registers_lines_and_densities_have_their_limits() {
-    for bad in ["W 100 0", "W 0 100", "R 100", "N 10", "P 2 800"] {
+    for bad in ["W 100 0", "W 0 100", "R 100", "N 10", "P 2 800", "Q 2 0 1"] {
         assert_eq!(printed(bad), "error 1\n");
     }
     assert_eq!(printed("W FF FF"), "W 05 | 80 00 01 00 0 0 0000\n");

@@ -35,6 +35,10 @@ fn the_example_of_document_01() {
         list::text(&bytes),
         "F 00 0\n100 00 00 01 00 good none\nids 1\n"
     );
+    // The proved list is tried on the same picture: the example, and the first of its stored ones.
+    let example = include_bytes!("../../examples/one-id.picture");
+    let stored = include_bytes!("../../crates/list/stdin");
+    assert!(bytes == example[..] && bytes == stored[..bytes.len()]);
 }
 
 #[test]

@@ -1,6 +1,6 @@
 // The viewer: what it finds, in which order, and its refusals.
 
-use second::bench::{self, Bench};
+use second::bench;
 use second::density::Density::{self, Fm, Mfm};
 use second::layout;
 use second::number;
@@ -184,7 +184,7 @@ fn line_q_prints_the_number_the_count_and_the_cells() {
     let id = "C 64 1FE 0 0 1 0 D2 C3\n";
     let mut script = format!("P 0 800\n{}C 70 1FB\n", id);
     script.push_str("F 71 80 0\nQ 0 0 1\nQ 0 0 100\n");
-    let printed = bench::run_on(Bench::with_viewer(), script.as_bytes());
+    let printed = bench::run(script.as_bytes());
     let text = String::from_utf8_lossy(&printed).to_string();
     assert!(text.ends_with("F\nQ 0B 0000\nerror 6\n"));
     let field = layout::field_cells(Fm, 0xFB, &[0; 128]);
@@ -192,7 +192,7 @@ fn line_q_prints_the_number_the_count_and_the_cells() {
         "P 0 800\n{}C 70 1FB\nF 71 80 0\nC F1 {:X} {:X}\nU\nQ 0 0 1\n",
         id, field[129], field[130]
     );
-    let printed = bench::run_on(Bench::with_viewer(), script.as_bytes());
+    let printed = bench::run(script.as_bytes());
     let expected = format!("U\nQ 00 0080{}\n", " 0000".repeat(128));
     assert!(String::from_utf8_lossy(&printed).ends_with(&expected));
 }

@@ -15,16 +15,16 @@ use Rattle.scan.specs.declared.Scan.{Scan}
 use Rattle.scan.specs.declared.Heard.{Heard}
 use Rattle.scan.specs.declared.Heard.the-variants.{On, Whole}
 use Rattle.scan.specs.Marks.{leadOf, passedOf}
-use Rattle.scan.specs.DataMarks.{soughtOf}
+use Rattle.scan.specs.DataMarks.{windowOf, soughtOf}
 use Rattle.scan.specs.Ids.{heardOf}
 use Rattle.scan.specs.Streams.{runPast, soughtPast, scanPast}
-use Rattle.order.specs.Sizes.{sizes, sizeOf}
+use Rattle.codes.specs.Sizes.{sizes, sizeOf}
 use Rattle.order.specs.declared.Order.{Order}
 use Rattle.order.specs.declared.Job.{Job}
 use Rattle.order.specs.declared.Job.the-variants as job
 use Rattle.activity.specs.declared.Seen.{Seen}
 use Rattle.search.specs.Search.{pulsesOf, matchesFor, servedOf, afresh, foundOf, hearsOf, searchedOf}
-use Rattle.reading.specs.Reading.{windowOf, missedOf, metOf, awaitedOf, againOf, readOf, addressBegun, huntedOf, huntOf, addressOf, trackReadOf}
+use Rattle.reading.specs.Reading.{missedOf, metOf, awaitedOf, againOf, readOf, addressBegun, huntedOf, huntOf, addressOf, trackReadOf}
 use Rattle.writing.specs.Writing.{lastKept, lastZero, markPlace, chosenMark, preambleNext, preambleOf, putOf}
 use Rattle.activity.specs.Limits.{scanWithin, countsWithin}
 use Rattle.act.proofs.ScanWithin.{GoesOnWithin, passed-within, sought-within, heard-within}

@@ -13,10 +13,10 @@ use Rattle.scan.specs.declared.Scan.{Scan}
 use Rattle.scan.specs.declared.Heard.{Heard}
 use Rattle.scan.specs.declared.Heard.the-variants.{On, Whole}
 use Rattle.scan.specs.Marks.{passedOf}
-use Rattle.scan.specs.DataMarks.{soughtOf as dataSoughtOf}
+use Rattle.scan.specs.DataMarks.{windowOf, soughtOf as dataSoughtOf}
 use Rattle.scan.specs.Ids.{heardOf}
-use Rattle.order.specs.Bits.{bitOf, bitT, bitV, bitM}
-use Rattle.order.specs.Times.{stepTimeOf}
+use Rattle.codes.specs.Bits.{bitOf, bitT, bitV, bitM}
+use Rattle.codes.specs.Times.{stepTimeOf}
 use Rattle.order.specs.declared.Order.{Order}
 use Rattle.activity.specs.declared.Seen.{Seen}
 use Rattle.activity.specs.declared.Act.{Act}
@@ -24,7 +24,7 @@ use Rattle.activity.specs.declared.Activity.{Activity}
 use Rattle.activity.specs.declared.Activity.the-variants.{Idle, Seek, Pulse, Stop, Settle, Search, Window, Data, Hunt, Address, Await, TrackRead, Preamble, Put, Format, FormatCrc}
 use Rattle.stepping.specs.Stepping.{stopOf, stepOf, decidedOf, soughtOf, pulsedOf, stoppedOf}
 use Rattle.search.specs.Search.{pulsesOf, matchesFor, foundOf, hearsOf, searchedOf}
-use Rattle.reading.specs.Reading.{windowOf, missedOf, metOf, awaitedOf, readOf, huntedOf, huntOf, addressOf, trackReadOf}
+use Rattle.reading.specs.Reading.{missedOf, metOf, awaitedOf, readOf, huntedOf, huntOf, addressOf, trackReadOf}
 use Rattle.act.specs.Turns.{settledOf, enteredOf, settlingOf, awaitingOf, reactedOf, actOf}
 
 -- the activity writes cells: Write Sector behind its ID, and Write Track

@@ -9,8 +9,8 @@ use lib.ListN.{getD}
 use borrow.Author.Tests.{leb-true, le-leb}
 use Rattle.common.proofs.Cases.{by-cond}
 use Rattle.common.proofs.Arms.{count, Gives, range}
-use Rattle.order.specs.Bits.{bitOf, bitT, bitV}
-use Rattle.order.specs.Times.{densityOf, stepTimes, stepTimeOf, settleTimeOf}
+use Rattle.codes.specs.Bits.{bitOf, bitT, bitV}
+use Rattle.codes.specs.Times.{densityOf, stepTimes, stepTimeOf, settleTimeOf}
 use Rattle.order.specs.declared.Order.{Order}
 use Rattle.activity.specs.declared.Seen.{Seen}
 use Rattle.activity.specs.declared.Act.{Act}

@@ -5,7 +5,7 @@ use mathlib.Core.Bool.{Bool, true, false, _&&_}
 use Prim.Native.Nat.{ℕ}
 use lib.Dec.{leb, eqb}
 use Rattle.common.proofs.Cases.{by-cond, both}
-use Rattle.order.specs.Bits.{bitOf, bitM, bitA}
+use Rattle.codes.specs.Bits.{bitOf, bitM, bitA}
 use Rattle.order.specs.declared.Order.{Order}
 use Rattle.order.specs.declared.Job.{Job}
 use Rattle.order.specs.declared.Job.the-variants as job

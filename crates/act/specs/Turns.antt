@@ -3,7 +3,7 @@ use mathlib.Core.Bool.{Bool, cond, _&&_}
 use Prim.Native.Nat.{ℕ, _-_}
 use lib.Dec.{eqb}
 use Rattle.crc.specs.Crc.{preset}
-use Rattle.order.specs.Bits.{bitOf, bitM, bitA}
+use Rattle.codes.specs.Bits.{bitOf, bitM, bitA}
 use Rattle.order.specs.declared.Order.{Order}
 use Rattle.order.specs.declared.Job.{Job}
 use Rattle.order.specs.declared.Job.the-variants as job

@@ -116,7 +116,7 @@ fn react(o: Order, s: Seen, activity: Activity) -> Act
         Activity::Window(left, passed, run) => reading::window(s, left, passed, run),
         Activity::Data(left, crc, deleted) => reading::read(
             s,
-            order::bit(o.byte, order::M),
+            codes::bit(o.byte, codes::M),
             left,
             crc,
             deleted,
@@ -127,11 +127,11 @@ fn react(o: Order, s: Seen, activity: Activity) -> Act
         Activity::TrackRead => reading::track_read(s),
         Activity::Preamble(left, passed) => writing::preamble(
             s,
-            order::bit(o.byte, order::A),
+            codes::bit(o.byte, codes::A),
             left,
             passed,
         ),
-        Activity::Put(left, crc) => writing::put(s, order::bit(o.byte, order::M), left, crc),
+        Activity::Put(left, crc) => writing::put(s, codes::bit(o.byte, codes::M), left, crc),
         Activity::Format(crc) => formatting::format(s, crc),
         Activity::FormatCrc(crc) => formatting::format_crc(s, crc),
     }

@@ -1,14 +1,19 @@
--- The cells of a machine that power-on gives fit a row's room. Assumes nothing.
+-- The cells of a machine that power-on gives fit a row's room, and so do those of a part of a row. Assumes nothing.
 use mathlib.Core.Path.{_≡_}
 use mathlib.Core.Bool.{Bool}
-use Prim.Native.Nat.{ℕ, _≤_}
+use mathlib.Core.List.{List}
+use Prim.Native.Nat.{ℕ, _-_, _≤_}
 use native.Mathlib.Omega.{arith}
 use lib.Dec.{leb}
+use lib.ListN.{length, take, length-take, length-drop}
 use borrow.Author.Tests.{leb-true}
 use Rattle.common.proofs.Cases.{by-cond, both}
-use Rattle.chip.specs.Rings.{lengthWithin}
+use Rattle.scan.specs.Rows.{lengthWithin}
 use Rattle.wd.specs.Machines.{poweredOf}
 use Rattle.wd.specs.declared.Started.{Started}
+use Rattle.viewer.specs.declared.Place.{Place}
+use Rattle.viewer.specs.declared.Place.the-variants.{Zero, One, Refused}
+use Rattle.viewer.specs.Views.{partOf, viewOf}
 
 pub powered-fits : (cells : ℕ) (mfm : Bool) (s : Started) → s ≡ poweredOf cells mfm → s .number ≡ 0 → cells ≤ 6400
 unfolding poweredOf lengthWithin
@@ -17,3 +22,20 @@ powered-fits cells mfm s e z =
     (λ taken _. leb-true cells 6400 (both (leb 2048 cells) (leb cells 6400) taken .1))
     (λ _ refused. absurd (omega arith))
     (rw e at z)
+
+pub taken-fits : (n : ℕ) (row : List ℕ) → n ≤ 6400 → length (take n row) ≤ 6400
+taken-fits n row h = simp length-take (omega arith)
+
+part-short : (side : List ℕ) (from to : ℕ) → length (partOf side from to) ≤ length side
+part-short side from to = simp (length-take, length-drop) (omega arith)
+
+pub view-fits :
+    (s0 s1 part : List ℕ) (p : Place)
+    → part ≡ viewOf p s0 s1
+    → length s0 ≤ 6400
+    → length s1 ≤ 6400
+    → length part ≤ 6400
+unfolding viewOf
+view-fits s0 s1 part (Zero from to) e h k = rw e (omega (arith, part-short s0 from to))
+view-fits s0 s1 part (One from to) e h k = rw e (omega (arith, part-short s1 from to))
+view-fits s0 s1 part (Refused number) e h k = rw e (omega arith)

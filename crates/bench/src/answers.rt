@@ -1,4 +1,7 @@
 // What a line that was carried out prints.
+ghost use Prim.Native.Nat.{_≤_};
+ghost use lib.ListN.{length};
+ghost use Rattle.bench.specs.Benches.{Fits, Room};
 use crate::benches::Answer;
 use crate::benches::Bench;
 use crate::output;
@@ -28,7 +31,55 @@ fn put_tally(out: &mut Buffer, waiting: u16, tally: Tally) -> u16 {
     output::put_word(out, waiting, tally.outward)
 }
 
-fn put_answer(out: &mut Buffer, waiting: u16, answer: Answer, bench: Bench, row: &[u16]) -> u16 {
+// The viewer's number, how many cells its part has, and the cells.
+fn put_view<'a>(
+    out: &mut Buffer,
+    waiting: u16,
+    side0: &'a [u16],
+    side1: &'a [u16],
+    mfm: bool,
+    track: u8,
+    sector: u8,
+) -> u16
+    requires { ⌜ (length (now side0) ≤ 6400) × (length (now side1) ≤ 6400) ⌝ }
+{
+    let number = viewer::number(side0, side1, mfm, track, sector);
+    let part = viewer::view(side0, side1, mfm, track, sector);
+    let waiting = output::put_byte(out, waiting, number);
+    let waiting = output::put_word(out, waiting, part.len() as u16);
+    output::put_cells(out, waiting, part, 0, part.len())
+}
+
+// The same of the two rows as they are: side 0 is the current one.
+fn put_view_of_rows<'a>(
+    out: &mut Buffer,
+    waiting: u16,
+    bench: Bench,
+    current: &'a [u16],
+    other: &'a [u16],
+    mfm: bool,
+    track: u8,
+    sector: u8,
+) -> u16
+    requires { ⌜ Fits bench × (Room (now current) × Room (now other)) ⌝ }
+{
+    let size0 = bench.current;
+    let size1 = bench.other;
+    let side0 = &current[..size0];
+    let side1 = &other[..size1];
+    put_view(out, waiting, side0, side1, mfm, track, sector)
+}
+
+fn put_answer<'a>(
+    out: &mut Buffer,
+    waiting: u16,
+    answer: Answer,
+    bench: Bench,
+    current: &'a [u16],
+    other: &'a [u16],
+) -> u16
+    requires { ⌜ Fits bench × (Room (now current) × Room (now other)) ⌝ }
+{
     match answer {
         Answer::Alone => waiting,
         Answer::State => put_state(out, waiting, bench),
@@ -46,20 +97,26 @@ fn put_answer(out: &mut Buffer, waiting: u16, answer: Answer, bench: Bench, row:
             let waiting = put_tally(out, waiting, tally);
             put_state(out, waiting, bench)
         }
-        Answer::Cells { from, to } => output::put_cells(out, waiting, row, from, to),
+        Answer::Cells { from, to } => output::put_cells(out, waiting, current, from, to),
+        Answer::View { mfm, track, sector } => {
+            put_view_of_rows(out, waiting, bench, current, other, mfm, track, sector)
+        }
     }
 }
 
 // The letter, the answer and a newline.
-pub fn print(
+pub fn print<'a>(
     out: &mut Buffer,
     waiting: u16,
     letter: u8,
     answer: Answer,
     bench: Bench,
-    row: &[u16],
-) -> u16 {
+    current: &'a [u16],
+    other: &'a [u16],
+) -> u16
+    requires { ⌜ Fits bench × (Room (now current) × Room (now other)) ⌝ }
+{
     let waiting = output::put(out, waiting, letter);
-    let waiting = put_answer(out, waiting, answer, bench, row);
+    let waiting = put_answer(out, waiting, answer, bench, current, other);
     output::put(out, waiting, b'\n')
 }

@@ -29,6 +29,8 @@ pub enum Answer {
     Run(u8, Tally),
     // Cells of the current row, from one place up to another.
     Cells { from: usize, to: usize },
+    // What the viewer says of the two rows.
+    View { mfm: bool, track: u8, sector: u8 },
 }
 
 // What comes of a line: it has nothing to carry out, it was carried out, or it cannot be.

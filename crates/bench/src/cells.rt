@@ -61,6 +61,14 @@ pub fn show(bench: Bench, place: u16, count: u16) -> Done
     bench.telling(Answer::Cells { from, to })
 }
 
+// Line Q. The viewer hands back a part of a row, so it is called where the line is printed.
+pub fn view(bench: Bench, mfm: bool, track: u8, sector: u8) -> Done
+    requires { ⌜ Fits bench ⌝ }
+    ensures { λ r. ⌜ Fits (r .bench) ⌝ }
+{
+    bench.telling(Answer::View { mfm, track, sector })
+}
+
 // Line U.
 pub fn swap(bench: Bench) -> Done
     requires { ⌜ Fits bench ⌝ }

@@ -27,6 +27,7 @@ pub fn carry_out(bench: Bench, line: Line, current: &mut [u16], other: &mut [u16
         Request::SetCells { place } => cells::set_cells(bench, place, line, current),
         Request::Show { place, count } => cells::show(bench, place, count),
         Request::Swap => cells::swap(bench),
+        Request::View { mfm, track, sector } => cells::view(bench, mfm, track, sector),
         Request::Bad => bench.failing(),
     }
 }

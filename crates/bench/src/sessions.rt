@@ -66,18 +66,19 @@ fn fail(session: Session, out: &mut Buffer) -> Session
 }
 
 // A line that was carried out prints what it tells.
-fn tell(
+fn tell<'a>(
     session: Session,
     bench: Bench,
     letter: u8,
     answer: Answer,
-    row: &[u16],
+    current: &'a [u16],
+    other: &'a [u16],
     out: &mut Buffer,
 ) -> Session
-    requires { ⌜ Fits bench ⌝ }
+    requires { ⌜ Fits bench × (Room (now current) × Room (now other)) ⌝ }
     ensures { λ r. ⌜ Ready r ⌝ }
 {
-    let waiting = answers::print(out, session.waiting, letter, answer, bench, row);
+    let waiting = answers::print(out, session.waiting, letter, answer, bench, current, other);
     go_on(session, bench, waiting)
 }
 
@@ -94,7 +95,7 @@ fn end_line(session: Session, current: &mut [u16], other: &mut [u16], out: &mut 
     let outcome = done.outcome;
     match outcome {
         Outcome::Nothing => go_on(session, next, session.waiting),
-        Outcome::Told(answer) => tell(session, next, line.letter, answer, current, out),
+        Outcome::Told(answer) => tell(session, next, line.letter, answer, current, other, out),
         Outcome::Failed => fail(session, out),
     }
 }

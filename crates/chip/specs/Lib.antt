@@ -2,5 +2,3 @@
 pub mod Rings
 pub mod Status
 pub mod Registers
-pub mod Accepting
-pub mod Deeds

@@ -2,16 +2,13 @@
 -- Assumes nothing.
 use mathlib.Core.Bool.{Bool, cond, _&&_, not, _||_}
 use Prim.Native.Nat.{ℕ, _+_}
-use lib.Dec.{ltb, leb, eqb}
+use lib.Dec.{ltb, eqb}
+use Rattle.scan.specs.Rows.{lengthWithin}
 use Rattle.chip.specs.declared.Ring.{Ring}
 use Rattle.activity.specs.declared.Seen.{Seen}
 use Rattle.chip.specs.declared.Regs.{Regs}
 use Rattle.chip.specs.declared.Conditions.{Conditions}
 use Rattle.chip.specs.declared.Lines.{Lines}
-
--- "L from 2,048 to 6,400"
-unfoldable pub lengthWithin : ℕ → Bool
-lengthWithin length = leb 2048 length && leb length 6400
 
 -- 2: "position not below L, L out of range"
 unfoldable pub ringWithin : Ring → Bool

@@ -1,6 +1,4 @@
-// The chip's parts: registers, wires, flags, head, ring and lines, and what calls and byte times do to each of them.
-pub mod accepting;
-pub mod deeds;
+// The chip's parts: registers, wires, flags, head, ring and lines, and what looking at them, reading and loading do.
 pub mod registers;
 pub mod rings;
 pub mod status_byte;

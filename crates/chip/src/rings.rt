@@ -1,22 +1,16 @@
 // The ring: its length, the head's position, and what a byte time sees there.
 ghost use mathlib.Core.Path.{_≡_};
-ghost use Rattle.chip.specs.Rings.{lengthWithin, ringWithin, nextOf, seenOf, toldOf};
+ghost use Rattle.chip.specs.Rings.{ringWithin, nextOf, seenOf, toldOf};
 use crate::Conditions;
 use crate::Lines;
 use crate::Regs;
 use crate::Ring;
 use activity::Seen;
 
-pub fn length_within(length: u16) -> bool
-    ensures { λ r. ⌜ r ≡ lengthWithin length ⌝ }
-{
-    (2048 <= length) & (length <= 6400)
-}
-
 pub fn ring_within(ring: Ring) -> bool
     ensures { λ r. ⌜ r ≡ ringWithin ring ⌝ }
 {
-    length_within(ring.length) & (ring.position < ring.length)
+    scan::length_within(ring.length as usize) & (ring.position < ring.length)
 }
 
 // The position goes up by one, and from the last cell to 0. One that is out of range stays where it is.

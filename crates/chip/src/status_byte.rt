@@ -15,6 +15,8 @@ impl Status {
 
     pub const DELETED: u8 = 0x20;
 
+    pub const SEEK_ERROR: u8 = 0x10;
+
     pub const NOT_FOUND: u8 = 0x10;
 
     pub const CRC: u8 = 0x08;
@@ -39,7 +41,7 @@ fn bit(on: bool, mask: u8) -> u8
 
 // The bits that mean one thing for Type I and another for Types II and III. For Type I they follow the lines and the last
 // byte time's pulse.
-pub fn of_type1(engaged: bool, index: bool, lines: Lines) -> u8
+fn type1_bits(engaged: bool, index: bool, lines: Lines) -> u8
     ensures { λ r. ⌜ r ≡ type1Of engaged index lines ⌝ }
     ensures { λ r. ⌜ r ≤ 0x66 ⌝ }
 {
@@ -48,7 +50,7 @@ pub fn of_type1(engaged: bool, index: bool, lines: Lines) -> u8
     high + low
 }
 
-pub fn of_type2(flags: Flags, drq: bool) -> u8
+fn type2_bits(flags: Flags, drq: bool) -> u8
     ensures { λ r. ⌜ r ≡ type2Of flags drq ⌝ }
     ensures { λ r. ⌜ r ≤ 0x66 ⌝ }
 {
@@ -58,7 +60,7 @@ pub fn of_type2(flags: Flags, drq: bool) -> u8
 }
 
 // The status byte, with these bits and those of every type.
-pub fn status_of(varying: u8, flags: Flags, busy: bool, ready: bool) -> Status
+fn status_of(varying: u8, flags: Flags, busy: bool, ready: bool) -> Status
     requires { ⌜ varying ≤ 0x66 ⌝ }
     ensures { λ r. ⌜ r ≡ statusFrom varying flags busy ready ⌝ }
 {
@@ -67,4 +69,18 @@ pub fn status_of(varying: u8, flags: Flags, busy: bool, ready: bool) -> Status
     Status {
         byte: high + varying + low,
     }
+}
+
+// The status byte of Type I: whether the head is loaded with HLT on, and whether the last byte time was a pulse.
+pub fn of_type1(engaged: bool, index: bool, flags: Flags, busy: bool, lines: Lines) -> Status
+    ensures { λ r. ⌜ r ≡ statusFrom (type1Of engaged index lines) flags busy (lines .ready) ⌝ }
+{
+    status_of(type1_bits(engaged, index, lines), flags, busy, lines.ready)
+}
+
+// The status byte of Types II and III.
+pub fn of_type2(drq: bool, flags: Flags, busy: bool, lines: Lines) -> Status
+    ensures { λ r. ⌜ r ≡ statusFrom (type2Of flags drq) flags busy (lines .ready) ⌝ }
+{
+    status_of(type2_bits(flags, drq), flags, busy, lines.ready)
 }

@@ -6,7 +6,8 @@ use mathlib.Core.List.{[], _∷_, map}
 use Rattle.order.specs.Commands.{decodedOf}
 use Rattle.activity.specs.Limits.{busyIn, countsWithin}
 use Rattle.chip.specs.declared.Lines.{Lines}
-use Rattle.chip.specs.Rings.{lengthWithin, ringWithin}
+use Rattle.scan.specs.Rows.{lengthWithin}
+use Rattle.chip.specs.Rings.{ringWithin}
 use Rattle.chip.specs.Registers.{guarded, loadRefusal}
 use Rattle.wd.specs.Machines.{validOf, freshOf, poweredOf}
 use Rattle.wd.specs.Loads.{commandedOf, loadedOf}

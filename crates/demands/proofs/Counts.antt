@@ -1,4 +1,4 @@
--- A run's count is tied to the position that the head is left at; a run of none, and one that a cell stops. Assumes nothing.
+-- A run's count is tied to the position that the head is left at; and a run of none. Assumes nothing.
 use mathlib.Core.Path.{_≡_, refl, sym, ap, _∙_}
 use mathlib.Core.List.{List}
 use Prim.Native.Nat.{ℕ, zero, suc, _+_, _%_, _≤_, _<_}
@@ -14,10 +14,10 @@ use Rattle.wd.specs.declared.Machine.{Machine}
 use Rattle.wd.specs.declared.Passed.{Passed}
 use Rattle.chip.specs.Rings.{nextOf}
 use Rattle.wd.specs.Turns.{appliedOf, turnedOf}
-use Rattle.wd.specs.Rows.{rowRefusal, under, refusedAt, doneBy, passedOf, rowOf, emptyRun, Run, runsOn, runFrom, runOf, runRowOf}
+use Rattle.wd.specs.Rows.{rowRefusal, under, refusedAt, doneBy, passedOf, rowOf, emptyRun, Run, runsOn, runFrom, runOf}
 use Rattle.wd.proofs.Valid.{next-length, next-inside, open-row, valid-ring}
 use Rattle.wd.proofs.Runs.{at}
-use Rattle.demands.specs.ByteTimes.{turnsOn, machineAfter, rowAfter, numberAfter, Stops, by-limit, by-wire, by-cell}
+use Rattle.demands.specs.ByteTimes.{turnsOn, machineAfter, rowAfter, numberAfter}
 use Rattle.demands.proofs.Runs.{run-makes}
 
 -- ---- the ring
@@ -60,7 +60,7 @@ next-mod n r h =
     (λ e. let on : r .position + suc n ≡ r .position + 1 + n = omega arith in rw on))
     (λ high. let above : r .length ≤ r .position = ltb-false _ _ high in absurd (omega arith))
 
-turns-position : (n : ℕ) (r : Ring) → r .position < r .length → turnsOn n r .position ≡ (r .position + n) % r .length
+pub turns-position : (n : ℕ) (r : Ring) → r .position < r .length → turnsOn n r .position ≡ (r .position + n) % r .length
 unfolding turnsOn
 turns-position zero r h = rw (add-zero, mod-eq-of-lt h)
 turns-position (suc n) r h =
@@ -89,19 +89,6 @@ module _ (m : Machine) (l : Lines) (limit : ℕ) (row : List ℕ) (opens : rowRe
   run-position =
       ap (λ (r : Ring). r .position) run-ring
       ∙ turns-position (reports m l limit row) (m .ring) (valid-ring m (open-row m (length row) opens .0) .inside)
-
-  -- "A run stopped by 4 hands back the machine before the refused byte time, with the count passed until then; earlier writes
-  -- stay."
-  pub run-stopped :
-      runOf m l limit row .number ≡ 4 → passedOf (runOf m l limit row .machine) l (runRowOf m l limit row) .number ≡ 4
-  run-stopped e =
-      let made = run-makes m l limit row opens in
-      rw (made .left, made .written) (by (made .stops) e)
-    where
-      by : {n number : ℕ} → Stops m l limit row n number → number ≡ 4 → numberAfter n m l row ≡ 4
-      by (by-limit h) e = absurd (omega arith)
-      by (by-wire some h) e = absurd (omega arith)
-      by (by-cell below off h) e = h
 
 -- "Limit 0 only makes the checks for 2 and 3."
 pub run-none :

@@ -8,29 +8,30 @@ use lib.ListN.{length, replicate}
 use borrow.Author.Tests.{ltb-true}
 use Rattle.crc.specs.Crc.{crcBit, crcBits, crcByte, crcOver}
 use Rattle.scan.specs.Marks.{leadOf, carriesMark, runOf as syncsOf, passedOf as markOf, markBytes, markCrc}
-use Rattle.scan.specs.DataMarks.{markByte, isDeleted, dataMarkOf, dataMarkIn, soughtOf as dataMarkAt}
+use Rattle.scan.specs.DataMarks.{windowOf, markByte, isDeleted, dataMarkOf, dataMarkIn, soughtOf as dataMarkAt}
 use Rattle.scan.specs.Ids.{begunOf as idBegun, pushedOf, wholeOf, addedOf, runIn, grownOf, lookedOf, heardOf}
 use Rattle.scan.specs.declared.Scan.the-variants.{Gap}
-use Rattle.order.specs.Bits.{bitOf}
+use Rattle.codes.specs.Bits.{bitOf}
 use Rattle.order.specs.Commands.{decodedOf}
 use Rattle.order.specs.Orders.{kindOf, jobOf, inwardOf, orderOf}
-use Rattle.order.specs.Sizes.{sizeOf}
-use Rattle.order.specs.Times.{stepTimeOf, settleTimeOf}
+use Rattle.codes.specs.Sizes.{sizeOf}
+use Rattle.codes.specs.Times.{stepTimeOf, settleTimeOf}
 use Rattle.activity.specs.Limits.{busyIn, scanWithin, countsWithin}
 use Rattle.stepping.specs.Stepping.{stopOf, movedOf, stepOf, decidedOf, soughtOf, pulsedOf, stoppedOf}
 use Rattle.search.specs.Search.{pulsesOf, sideOf, sideMatches, matchesFor, servedOf, foundOf, hearsOf, searchedOf}
-use Rattle.reading.specs.Reading.{windowOf, missedOf, metOf, awaitedOf, againOf, readOf, addressBegun, huntedOf, huntOf, trackIn, addressOf, trackReadOf}
+use Rattle.reading.specs.Reading.{missedOf, metOf, awaitedOf, againOf, readOf, addressBegun, huntedOf, huntOf, trackIn, addressOf, trackReadOf}
 use Rattle.writing.specs.Writing.{lastKept, lastZero, markPlace, chosenMark, markCell, preambleCell, preambleNext, asksOf, preambleOf, takenOf, putOf}
 use Rattle.act.specs.Turns.{begunOf, openedOf, settledOf, enteredOf, settlingOf, reactedOf, actOf}
 use Rattle.activity.specs.declared.Activity.the-variants.{Search, Hunt}
 use Rattle.chip.specs.declared.Lines.{Lines}
 use Rattle.wd.specs.declared.Machine.{Machine}
-use Rattle.chip.specs.Rings.{lengthWithin, ringWithin, nextOf, seenOf, toldOf}
+use Rattle.scan.specs.Rows.{lengthWithin}
+use Rattle.chip.specs.Rings.{ringWithin, nextOf, seenOf, toldOf}
 use Rattle.wd.specs.Machines.{validOf, freshOf, poweredOf}
 use Rattle.chip.specs.Registers.{guarded, loadRefusal, loadRegs, loadWires}
-use Rattle.chip.specs.Accepting.{writes, heldBy, asksFirst, beginRegs, beginWires, forcedFlags, beginFlags, beginHead, beginConditions, worksFrom, beginActivity}
+use Rattle.accepting.specs.Accepting.{writes, heldBy, asksFirst, beginRegs, beginWires, forcedFlags, beginFlags, beginHead, beginConditions, worksFrom, beginActivity}
 use Rattle.wd.specs.Loads.{begunOf as commandBegun, commandedOf, loadedOf}
-use Rattle.chip.specs.Deeds.{raisedSr, regsAfter, drqAfter, flagsAfter, headAfter, pulseOf}
+use Rattle.deeds.specs.Deeds.{raisedSr, regsAfter, drqAfter, flagsAfter, headAfter, pulseOf}
 use Rattle.wd.specs.Turns.{appliedOf, turnedOf}
 use Rattle.wd.specs.Rows.{rowRefusal, refusedAt, doneBy, passedOf}
 use Rattle.demands.specs.Growth.{Grown, power-on, load, byte-time}

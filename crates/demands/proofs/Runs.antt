@@ -18,7 +18,7 @@ use Rattle.wd.specs.Rows.{rowRefusal, under, refusedAt, doneBy, passedOf, rowOf
 use Rattle.wd.proofs.Valid.{pass-open}
 use Rattle.wd.proofs.Runs.{at, open-run}
 use Rattle.wd.proofs.Stretches.{goes-on}
-use Rattle.demands.specs.ByteTimes.{machineAfter, rowAfter, numberAfter, calls, Stops, by-limit, by-wire, by-cell, Makes}
+use Rattle.demands.specs.ByteTimes.{machineAfter, rowAfter, numberAfter, signals, Stops, by-limit, by-wire, by-cell, Makes}
 use Rattle.demands.proofs.AsGiven.{byte-time-machine, byte-time-row}
 
 -- ---- one byte time of a run
@@ -56,16 +56,16 @@ counted-none t number p refused = rw (ne-eqb _ _ refused) (omega arith)
 
 -- no wire is on behind n byte times, none of them counted in
 still : (n : ℕ) (m : Machine) (l : Lines) (row : List ℕ)
-    → calls m ≡ false
-    → (0 < n → calls (machineAfter n m l row) ≡ false)
-    → calls (machineAfter n m l row) ≡ false
+    → signals m ≡ false
+    → (0 < n → signals (machineAfter n m l row) ≡ false)
+    → signals (machineAfter n m l row) ≡ false
 unfolding machineAfter
 still zero m l row first rest = first
 still (suc n) m l row first rest = rest (omega arith)
 
 -- one byte time more in front
 later : {m : Machine} {l : Lines} {limit : ℕ} {row : List ℕ} {n number : ℕ}
-    → calls (passedOf m l row .machine) ≡ false
+    → signals (passedOf m l row .machine) ≡ false
     → Stops (passedOf m l row .machine) l limit (rowOf m l row) n number
     → Stops m l (suc limit) row (suc n) number
 unfolding machineAfter rowAfter
@@ -134,7 +134,7 @@ module _ (limit : ℕ) (l : Lines) (r : Run) (opens : rowRefusal (r .ran .machin
             },
           )
 
-  makes-more : (to : Run) → nextIn l r .number ≡ 0 → calls (nextIn l r .machine) ≡ false
+  makes-more : (to : Run) → nextIn l r .number ≡ 0 → signals (nextIn l r .machine) ≡ false
       → MakesSome limit l (onward l r) to
       → MakesSome (suc limit) l r to
   unfolding onward ranTo machineAfter rowAfter
@@ -148,7 +148,7 @@ module _ (limit : ℕ) (l : Lines) (r : Run) (opens : rowRefusal (r .ran .machin
           (λ k h. made .accepted k (omega arith));
       quiet =
           λ k h.
-          front (λ (k : ℕ). calls (machineAfter (suc k) (r .ran .machine) l (r .row)) ≡ false) n quiet (made .quiet) k
+          front (λ (k : ℕ). signals (machineAfter (suc k) (r .ran .machine) l (r .row)) ≡ false) n quiet (made .quiet) k
           (omega arith);
       left = made .left;
       written = made .written;

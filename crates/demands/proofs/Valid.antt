@@ -8,7 +8,7 @@ use lib.Dec.{leb, ltb, eqb}
 use lib.ListN.{length}
 use borrow.Author.Tests.{leb-true}
 use Rattle.common.proofs.Cases.{by-cond, both, all}
-use Rattle.order.specs.Bits.{bitOf, bitE}
+use Rattle.codes.specs.Bits.{bitOf, bitE}
 use Rattle.order.specs.Commands.{decodedOf}
 use Rattle.order.specs.Orders.{kindOf}
 use Rattle.order.specs.declared.Decoded.{Decoded}
@@ -23,11 +23,12 @@ use Rattle.wd.specs.declared.Started.{Started}
 use Rattle.wd.specs.declared.Loaded.{Loaded}
 use Rattle.wd.specs.declared.Read.{Read}
 use Rattle.wd.specs.declared.Passed.{Passed}
-use Rattle.chip.specs.Rings.{lengthWithin, ringWithin}
+use Rattle.scan.specs.Rows.{lengthWithin}
+use Rattle.chip.specs.Rings.{ringWithin}
 use Rattle.wd.specs.Machines.{validOf, freshOf, poweredOf}
 use Rattle.chip.specs.Registers.{readRefusal, loadRefusal}
 use Rattle.wd.specs.Reads.{readOf}
-use Rattle.chip.specs.Accepting.{endsAtOnce, worksFrom, beginActivity}
+use Rattle.accepting.specs.Accepting.{endsAtOnce, worksFrom, beginActivity}
 use Rattle.wd.specs.Loads.{begunOf, commandedOf, loadedOf}
 use Rattle.wd.specs.Rows.{rowRefusal, under, refusedAt, doneBy, passedOf, ranTo, emptyRun, stopsAt, Run, nextIn, onward, runsOn, runFrom, runOf}
 use Rattle.wd.proofs.Valid.{held-ring, turn-valid}

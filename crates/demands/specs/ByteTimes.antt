@@ -26,22 +26,26 @@ rowAfter (suc n) m l row = rowAfter n (passedOf m l row .machine) l (rowOf m l r
 abbrev pub numberAfter : ℕ → Machine → Lines → List ℕ → ℕ
 numberAfter n m l row = passedOf (machineAfter n m l row) l (rowAfter n m l row) .number
 
--- "ends with DRQ or INTRQ on"
-abbrev pub calls : Machine → Bool
-calls m = m .wires .drq || m .wires .intrq
+-- "ends with DRQ or INTRQ on": one of the two wires signals to the host
+abbrev pub signals : Machine → Bool
+signals m = m .wires .drq || m .wires .intrq
 
 -- what ends a run behind n byte times, and the number that it gives then
 pub data Stops (m : Machine) (l : Lines) (limit : ℕ) (row : List ℕ) (n : ℕ) : ℕ → Type 0 where
   by-limit : n ≡ limit → Stops m l limit row n 0
-  by-wire : 0 < n → calls (machineAfter n m l row) ≡ true → Stops m l limit row n 0
-  by-cell : n < limit → (0 < n → calls (machineAfter n m l row) ≡ false) → numberAfter n m l row ≡ 4 → Stops m l limit row n 4
+  by-wire : 0 < n → signals (machineAfter n m l row) ≡ true → Stops m l limit row n 0
+  by-cell :
+      n < limit
+      → (0 < n → signals (machineAfter n m l row) ≡ false)
+      → numberAfter n m l row ≡ 4
+      → Stops m l limit row n 4
 
 -- "A run call makes byte times up to a lent limit .. and stops after the first one that ends with DRQ or INTRQ on.": it makes n,
 -- and hands back the machine and the row behind them
 pub record Makes (m : Machine) (l : Lines) (limit : ℕ) (row : List ℕ) (n : ℕ) (run : Run) : Type 0 where
   pub most : n ≤ limit
   pub accepted : (k : ℕ) → k < n → numberAfter k m l row ≡ 0
-  pub quiet : (k : ℕ) → suc k < n → calls (machineAfter (suc k) m l row) ≡ false
+  pub quiet : (k : ℕ) → suc k < n → signals (machineAfter (suc k) m l row) ≡ false
   pub left : run .ran .machine ≡ machineAfter n m l row
   pub written : run .row ≡ rowAfter n m l row
   pub stops : Stops m l limit row n (run .ran .number)

@@ -1,4 +1,5 @@
--- The machines that a host can come to hold. Assumes nothing.
+-- The machines that a host can come to hold, and what stays the same in all of them. Assumes nothing.
+use mathlib.Core.Path.{_≡_}
 use mathlib.Core.Bool.{Bool}
 use mathlib.Core.List.{List}
 use Prim.Native.Nat.{ℕ, _<_}
@@ -18,3 +19,8 @@ pub data Grown : Machine → Type 0 where
   read : {m : Machine} → Grown m → (l : Lines) (number : ℕ) → Grown (readOf m l number .machine)
   byte-time : {m : Machine} → Grown m → (l : Lines) (row : List ℕ) → Grown (passedOf m l row .machine)
   run : {m : Machine} → Grown m → (l : Lines) (limit : ℕ) (row : List ℕ) → Grown (runOf m l limit row .machine)
+
+-- "Power-on is given L and density (FM or MFM), fixed from then on.": the second machine has those of the first
+pub record Fixed (m n : Machine) : Type 0 where
+  pub length : n .ring .length ≡ m .ring .length
+  pub density : n .mfm ≡ m .mfm

@@ -2,3 +2,11 @@
 pub mod Growth
 pub mod ByteTimes
 pub mod Limits
+pub mod Refusals
+pub mod Answers
+pub mod Hosts
+pub mod Tracks
+pub mod Demand3
+pub mod Demand2
+pub mod Agreement
+pub mod Ends

@@ -1,13 +1,12 @@
--- The cases of command bytes and step times, each proved as one statement over one list.
+-- The cases of command bytes, each proved as one statement over one list.
 -- Assumes nothing.
 use mathlib.Core.Path.{_≡_, refl}
 use mathlib.Core.Bool.{cond}
 use mathlib.Core.List.{List, [], _∷_, map}
-use Prim.Native.Nat.{ℕ, _*_}
+use Prim.Native.Nat.{ℕ}
 use lib.Dec.{eqb}
 use lib.ListN.{length}
 use Rattle.order.specs.Commands.{decodedOf, refusalOf}
-use Rattle.order.specs.Times.{stepTimes, roundedUp}
 use Rattle.common.proofs.Arms.{count}
 
 -- 80, C4 are accepted; 9F, C3 are refused with 7
@@ -30,8 +29,3 @@ pub fifty-eight :
     (length (refusedOf (count 0 256)) ≡ 58)
 unfolding decodedOf
 fifty-eight = (refl, refl)
-
--- the step times are 6, 12, 20, 30 ms in byte times of 64 us (FM) and 32 us (MFM), rounded up
-pub step-times-rounded-up :
-    stepTimes ≡ map (λ byte-time. map (λ ms. roundedUp (ms * 1000) byte-time) (6 ∷ 12 ∷ 20 ∷ 30 ∷ [])) (64 ∷ 32 ∷ [])
-step-times-rounded-up = refl

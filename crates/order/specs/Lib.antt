@@ -1,7 +1,3 @@
--- What a command byte asks for: the command, its order, its bits and the times that they choose; and the lengths that an ID's
--- length byte chooses.
-pub mod Bits
+-- What a command byte asks for: the command, and its order.
 pub mod Commands
 pub mod Orders
-pub mod Sizes
-pub mod Times

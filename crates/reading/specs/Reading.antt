@@ -4,7 +4,7 @@ use Prim.Native.Nat.{ℕ, _+_, _-_}
 use lib.Dec.{ltb, leb, eqb}
 use Rattle.crc.specs.Crc.{crcByte}
 use Rattle.scan.specs.Marks.{byteOf, passedOf, markCrc}
-use Rattle.scan.specs.DataMarks.{soughtOf, markByte, isDeleted}
+use Rattle.scan.specs.DataMarks.{windowOf, soughtOf, markByte, isDeleted}
 use Rattle.scan.specs.declared.Passed.{Passed}
 use Rattle.scan.specs.declared.Passed.the-variants.{Gap, Mark}
 use Rattle.scan.specs.declared.Sought.{Sought}
@@ -18,10 +18,6 @@ use Rattle.activity.specs.declared.Deed.the-variants.{Nothing, Deliver, Named, 
 use Rattle.search.specs.Search.{pulsesOf, afresh}
 
 -- ---- Read Sector
-
--- "The mark byte must be among the first 30 (FM) or 43 (MFM) cells after the ID's last"
-unfoldable pub windowOf : Bool → ℕ
-windowOf mfm = cond mfm 43 30
 
 -- "No data mark by the window's last cell: bit 4, end there."
 unfoldable pub missedOf : Seen → ℕ → ℕ → ℕ → Act

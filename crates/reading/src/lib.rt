@@ -1,7 +1,6 @@
 // Read Sector behind its ID, Read Address and Read Track.
 ghost use mathlib.Core.Path.{_≡_};
-ghost use Prim.Native.Nat.{_≤_};
-ghost use Rattle.reading.specs.Reading.{windowOf, missedOf, metOf, awaitedOf, againOf, readOf, addressBegun, huntedOf, huntOf, trackIn, addressOf, trackReadOf};
+ghost use Rattle.reading.specs.Reading.{missedOf, metOf, awaitedOf, againOf, readOf, addressBegun, huntedOf, huntOf, trackIn, addressOf, trackReadOf};
 use activity::Act;
 use activity::Activity;
 use activity::Deed;
@@ -11,18 +10,10 @@ use scan::Scan;
 use scan::Sought;
 use search::pulses;
 
-// How many cells behind the ID's last may hold the data mark.
-fn window_of(mfm: bool) -> u16
-    ensures { λ r. ⌜ r ≡ windowOf mfm ⌝ }
-    ensures { λ r. ⌜ r ≤ 43 ⌝ }
-{
-    if mfm { 43 } else { 30 }
-}
-
 fn missed(s: Seen, left: u16, passed: u8, run: u8) -> Act
     ensures { λ r. ⌜ r ≡ missedOf s left passed run ⌝ }
 {
-    if passed as u16 + 1 < window_of(s.mfm) {
+    if passed as u16 + 1 < scan::window(s.mfm) as u16 {
         return Act {
             next: Activity::Window(left, passed + 1, run),
             deed: Deed::Nothing,

@@ -21,7 +21,9 @@ unfolding gathered pushedOf
 gathered-passed mfm cells p zero = refl
 gathered-passed mfm cells p (suc j) = ap (λ (n : ℕ). n + 1) (gathered-passed mfm cells p j) ∙ omega arith
 
-mark-crc : (mfm : Bool) (cells : ℕ → ℕ) (a b : ℕ) → MarkAt mfm cells a b → crcFrom cells a (suc (leadOf mfm)) ≡ markCrc mfm b
+-- the register after the cells of a mark
+pub mark-crc :
+    (mfm : Bool) (cells : ℕ → ℕ) (a b : ℕ) → MarkAt mfm cells a b → crcFrom cells a (suc (leadOf mfm)) ≡ markCrc mfm b
 unfolding MarkAt leadOf markCrc markBytes crcFrom crcOver
 mark-crc false cells a b (h, e) =
     ap (λ (x : ℕ). crcByte preset x) (ap (λ (x : ℕ). cells x % 256) (add-zero a) ∙ omega arith)

@@ -29,3 +29,7 @@ dataMarkIn (Mark b) = dataMarkOf b
 
 unfoldable pub soughtOf : Bool → ℕ → ℕ → Sought
 soughtOf mfm cell run = dataMarkIn (passedOf mfm cell run)
+
+-- "The mark byte must be among the first 30 (FM) or 43 (MFM) cells after the ID's last; in MFM its three A1s too."
+unfoldable pub windowOf : Bool → ℕ
+windowOf mfm = cond mfm 43 30

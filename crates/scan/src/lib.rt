@@ -2,7 +2,8 @@
 ghost use mathlib.Core.Path.{_≡_};
 ghost use mathlib.Core.Bool.{cond};
 ghost use Rattle.scan.specs.Marks.{leadOf, carriesMark, runOf, passedOf, markCrc};
-ghost use Rattle.scan.specs.DataMarks.{dataMarkOf, dataMarkIn, soughtOf, markByte, isDeleted};
+ghost use Rattle.scan.specs.Rows.{lengthWithin};
+ghost use Rattle.scan.specs.DataMarks.{dataMarkOf, dataMarkIn, soughtOf, markByte, isDeleted, windowOf};
 ghost use Rattle.scan.specs.Ids.{begunOf, runIn, addedOf, grownOf, lookedOf, heardOf};
 
 // A1 with missing clocks.
@@ -59,7 +60,15 @@ pub enum Heard {
     Whole(Id),
 }
 
-fn lead(mfm: bool) -> u8
+// Whether a track may have so many cells.
+pub fn length_within(length: usize) -> bool
+    ensures { λ r. ⌜ r ≡ lengthWithin length ⌝ }
+{
+    (2048 <= length) & (length <= 6400)
+}
+
+// How many flagged A1 cells stand before a mark's byte.
+pub fn lead(mfm: bool) -> u8
     ensures { λ r. ⌜ r ≡ leadOf mfm ⌝ }
 {
     if mfm { 3 } else { 0 }
@@ -147,6 +156,13 @@ pub fn is_deleted(mark: DataMark) -> bool
         DataMark::Fb => false,
         DataMark::F8 => true,
     }
+}
+
+// How many cells behind an ID may hold its data mark.
+pub fn window(mfm: bool) -> u8
+    ensures { λ r. ⌜ r ≡ windowOf mfm ⌝ }
+{
+    if mfm { 43 } else { 30 }
 }
 
 fn begin(mfm: bool, byte: u8) -> Scan

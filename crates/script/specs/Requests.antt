@@ -5,7 +5,7 @@ use lib.Dec.{ltb, eqb}
 use lib.ListN.{getD}
 use Rattle.script.specs.declared.lines.Line.{Line}
 use Rattle.script.specs.declared.requests.Request.{Request}
-use Rattle.script.specs.declared.requests.Request.the-variants.{Nothing, PowerOn, SetLines, Load, Read, ByteTime, Run, SetPosition, SetLength, SetCount, Fill, SetCells, Show, Swap, Bad}
+use Rattle.script.specs.declared.requests.Request.the-variants.{Nothing, PowerOn, SetLines, Load, Read, ByteTime, Run, SetPosition, SetLength, SetCount, Fill, SetCells, Show, Swap, View, Bad}
 
 -- "A register number or a byte above FF, drive lines above F and a density above 1 are errors of the script"
 unfoldable pub powering : ℕ → ℕ → Request
@@ -19,6 +19,11 @@ loading register byte = cond (ltb 0xFF register) Bad (cond (ltb 0xFF byte) Bad (
 
 unfoldable pub reading : ℕ → Request
 reading register = cond (ltb 0xFF register) Bad (Read register)
+
+unfoldable pub viewing : ℕ → ℕ → ℕ → Request
+viewing density track sector =
+    cond (ltb 1 density) Bad
+    (cond (ltb 0xFF track) Bad (cond (ltb 0xFF sector) Bad (View (eqb density 1) track sector)))
 
 -- "those named, 1 to 64 (decimal) of them": a line has no more than 65 numbers
 unfoldable pub cellsFrom : ℕ → ℕ → Request
@@ -46,7 +51,7 @@ ofTwo letter a b =
     Bad))
 
 unfoldable pub ofThree : ℕ → ℕ → ℕ → ℕ → Request
-ofThree letter a b c = cond (eqb letter 0x46) (Fill a b c) Bad
+ofThree letter a b c = cond (eqb letter 0x46) (Fill a b c) (cond (eqb letter 0x51) (viewing a b c) Bad)
 
 -- "an unknown letter, a missing or extra or too large number": an error of the script
 unfoldable pub requestOf : Line → Request

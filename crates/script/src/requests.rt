@@ -1,6 +1,6 @@
 // What a line asks for: its letter, as many numbers as the letter takes, each within its bounds.
 ghost use mathlib.Core.Path.{_≡_};
-ghost use Rattle.script.specs.Requests.{powering, wiring, loading, reading, cellsFrom, ofNone, ofOne, ofTwo, ofThree, requestOf};
+ghost use Rattle.script.specs.Requests.{powering, wiring, loading, reading, viewing, cellsFrom, ofNone, ofOne, ofTwo, ofThree, requestOf};
 use crate::lines::Line;
 
 pub enum Request {
@@ -20,6 +20,7 @@ pub enum Request {
     SetCells { place: u16 },
     Show { place: u16, count: u16 },
     Swap,
+    View { mfm: bool, track: u8, sector: u8 },
     Bad,
 }
 
@@ -67,6 +68,25 @@ fn read(register: u16) -> Request
     }
     Request::Read {
         register: register as u8,
+    }
+}
+
+fn view(density: u16, track: u16, sector: u16) -> Request
+    ensures { λ r. ⌜ r ≡ viewing density track sector ⌝ }
+{
+    if 1 < density {
+        return Request::Bad;
+    }
+    if 255 < track {
+        return Request::Bad;
+    }
+    if 255 < sector {
+        return Request::Bad;
+    }
+    Request::View {
+        mfm: density == 1,
+        track: track as u8,
+        sector: sector as u8,
     }
 }
 
@@ -125,6 +145,7 @@ fn of_three(letter: u8, a: u16, b: u16, c: u16) -> Request
             count: b,
             cell: c,
         },
+        b'Q' => view(a, b, c),
         _ => Request::Bad,
     }
 }

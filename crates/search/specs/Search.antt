@@ -8,8 +8,8 @@ use Rattle.scan.specs.declared.Scan.{Scan}
 use Rattle.scan.specs.declared.Scan.the-variants.{Gap}
 use Rattle.scan.specs.declared.Heard.{Heard}
 use Rattle.scan.specs.declared.Heard.the-variants.{On, Whole}
-use Rattle.order.specs.Bits.{bitOf, bitS, bitC}
-use Rattle.order.specs.Sizes.{sizeOf}
+use Rattle.codes.specs.Bits.{bitOf, bitS, bitC}
+use Rattle.codes.specs.Sizes.{sizeOf}
 use Rattle.order.specs.declared.Order.{Order}
 use Rattle.order.specs.declared.Job.{Job}
 use Rattle.order.specs.declared.Job.the-variants as job

@@ -25,13 +25,13 @@ pub fn pulses(seen: u8, index: bool) -> u8
 fn side_of(o: Order) -> u8
     ensures { λ r. ⌜ r ≡ sideOf o ⌝ }
 {
-    if order::bit(o.byte, order::S) { 1 } else { 0 }
+    if codes::bit(o.byte, codes::S) { 1 } else { 0 }
 }
 
 fn side_matches(o: Order, id: Id) -> bool
     ensures { λ r. ⌜ r ≡ sideMatches o id ⌝ }
 {
-    !order::bit(o.byte, order::C) | (id.side == side_of(o))
+    !codes::bit(o.byte, codes::C) | (id.side == side_of(o))
 }
 
 fn matches(o: Order, s: Seen, id: Id, job: Job) -> bool
@@ -51,8 +51,8 @@ fn served(job: Job, length: u8) -> Activity
     ensures { λ r. ⌜ r ≡ servedOf length job ⌝ }
 {
     match job {
-        Job::ReadSector => Activity::Window(order::size(length) + 2, 0, 0),
-        Job::WriteSector => Activity::Preamble(order::size(length) + 3, 0),
+        Job::ReadSector => Activity::Window(codes::size(length) + 2, 0, 0),
+        Job::WriteSector => Activity::Preamble(codes::size(length) + 3, 0),
         _ => Activity::Idle,
     }
 }

@@ -2,8 +2,8 @@
 use mathlib.Core.Bool.{Bool, true, false, cond, not, _&&_}
 use Prim.Native.Nat.{ℕ, _+_, _-_, _%_}
 use lib.Dec.{ltb, leb, eqb}
-use Rattle.order.specs.Bits.{bitOf, bitT, bitV}
-use Rattle.order.specs.Times.{stepTimeOf, settleTimeOf}
+use Rattle.codes.specs.Bits.{bitOf, bitT, bitV}
+use Rattle.codes.specs.Times.{stepTimeOf, settleTimeOf}
 use Rattle.order.specs.declared.Order.{Order}
 use Rattle.activity.specs.Acts.{pass}
 use Rattle.activity.specs.declared.Seen.{Seen}

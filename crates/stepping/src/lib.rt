@@ -11,7 +11,7 @@ use order::Order;
 fn stop(o: Order, s: Seen, rule: bool) -> Act
     ensures { λ r. ⌜ r ≡ stopOf o s rule ⌝ }
 {
-    if order::bit(o.byte, order::V) {
+    if codes::bit(o.byte, codes::V) {
         if (o.byte <= 0x0F) & !s.track0 {
             return Act {
                 next: Activity::Idle,
@@ -20,7 +20,7 @@ fn stop(o: Order, s: Seen, rule: bool) -> Act
             };
         }
         return Act {
-            next: Activity::Settle(order::settle_time(s.mfm)),
+            next: Activity::Settle(codes::settle_time(s.mfm)),
             deed: Deed::Halt(rule, true),
             cell: s.cell,
         };
@@ -71,7 +71,7 @@ fn decide(o: Order, s: Seen) -> Act
         s,
         s.tr < s.dr,
         true,
-        Activity::Seek(order::step_time(s.mfm, o.byte)),
+        Activity::Seek(codes::step_time(s.mfm, o.byte)),
     )
 }
 
@@ -93,8 +93,8 @@ pub fn seek(o: Order, s: Seen, left: u16) -> Act
 pub fn pulse(o: Order, s: Seen) -> Act
     ensures { λ r. ⌜ r ≡ pulsedOf o s ⌝ }
 {
-    let next = Activity::Stop(order::step_time(s.mfm, o.byte));
-    step(o, s, o.inward, order::bit(o.byte, order::T), next)
+    let next = Activity::Stop(codes::step_time(s.mfm, o.byte));
+    step(o, s, o.inward, codes::bit(o.byte, codes::T), next)
 }
 
 // Behind the one pulse.

@@ -15,7 +15,7 @@ use Rattle.activity.specs.Limits.{busyIn}
 use Rattle.activity.specs.declared.Act.{Act}
 use Rattle.activity.specs.declared.Activity.{Activity}
 use Rattle.activity.specs.declared.Deed.the-variants.{Nothing}
-use Rattle.chip.specs.Deeds.{regsAfter, drqAfter, flagsAfter, headAfter, pulseOf}
+use Rattle.deeds.specs.Deeds.{regsAfter, drqAfter, flagsAfter, headAfter, pulseOf}
 use Rattle.chip.specs.Rings.{nextOf, seenOf, toldOf}
 use Rattle.chip.specs.declared.Conditions.{Conditions}
 use Rattle.chip.specs.declared.Lines.{Lines}

@@ -14,7 +14,8 @@ use Rattle.chip.specs.declared.Ring.{Ring}
 use Rattle.chip.specs.declared.Lines.{Lines}
 use Rattle.wd.specs.declared.Machine.{Machine}
 use Rattle.wd.specs.declared.Passed.{Passed}
-use Rattle.chip.specs.Rings.{lengthWithin, ringWithin, nextOf}
+use Rattle.scan.specs.Rows.{lengthWithin}
+use Rattle.chip.specs.Rings.{ringWithin, nextOf}
 use Rattle.wd.specs.Machines.{validOf}
 use Rattle.wd.specs.Turns.{seesOf, appliedOf, turnedOf}
 use Rattle.wd.specs.Rows.{rowRefusal, under, refusedAt, doneBy, passedOf, rowOf}

@@ -1,5 +1,6 @@
 -- The controller's calls, document 01 from "The ring of cells" to "Registers and commands". What it does in a byte time over
--- one cell is the definition of the crate `act`, and what that does to its parts of the crate `chip`.
+-- one cell is the definition of the crate `act`, and what that does to its parts of the crates `chip`,
+-- `accepting` and `deeds`.
 pub mod Machines
 pub mod Reads
 pub mod Loads

@@ -14,7 +14,7 @@ use Rattle.wd.specs.declared.Loaded.{Loaded}
 use Rattle.wd.specs.Machines.{validOf}
 use Rattle.wd.specs.Reads.{withBus}
 use Rattle.chip.specs.Registers.{loadRefusal, loadRegs, loadWires}
-use Rattle.chip.specs.Accepting.{heldBy, endsAtOnce, asksFirst, beginRegs, beginWires, beginFlags, beginHead, beginConditions, beginActivity}
+use Rattle.accepting.specs.Accepting.{heldBy, endsAtOnce, asksFirst, beginRegs, beginWires, beginFlags, beginHead, beginConditions, beginActivity}
 
 -- ---- an accepted command
 

@@ -6,7 +6,8 @@ use Rattle.activity.specs.Limits.{countsWithin}
 use Rattle.activity.specs.declared.Activity.the-variants.{Idle}
 use Rattle.wd.specs.declared.Machine.{Machine}
 use Rattle.wd.specs.declared.Started.{Started}
-use Rattle.chip.specs.Rings.{lengthWithin, ringWithin}
+use Rattle.scan.specs.Rows.{lengthWithin}
+use Rattle.chip.specs.Rings.{ringWithin}
 
 -- "or a count above the largest its activity holds in any machine grown from power-on"
 unfoldable pub validOf : Machine → Bool

@@ -8,7 +8,7 @@ use Rattle.activity.specs.declared.Seen.{Seen}
 use Rattle.chip.specs.declared.Lines.{Lines}
 use Rattle.wd.specs.declared.Machine.{Machine}
 use Rattle.wd.specs.declared.Turn.{Turn}
-use Rattle.chip.specs.Deeds.{regsAfter, drqAfter, flagsAfter, headAfter, pulseOf}
+use Rattle.deeds.specs.Deeds.{regsAfter, drqAfter, flagsAfter, headAfter, pulseOf}
 use Rattle.chip.specs.Rings.{nextOf, seenOf, toldOf}
 
 -- "When it ends by itself, Busy goes off and INTRQ on in that byte time."

@@ -23,8 +23,6 @@ use chip::Regs;
 use chip::Ring;
 use chip::Status;
 use chip::Wires;
-use chip::accepting;
-use chip::deeds;
 use chip::registers;
 use chip::rings;
 use chip::status_byte;
@@ -264,7 +262,7 @@ impl Machine {
     pub fn power_on(length: u16, mfm: bool) -> Started
         ensures { λ r. ⌜ r ≡ poweredOf length mfm ⌝ }
     {
-        if rings::length_within(length) {
+        if scan::length_within(length as usize) {
             Started {
                 number: 0,
                 machine: Machine::fresh(length, mfm),
@@ -286,8 +284,8 @@ impl Machine {
         rings::ring_within(ring) & activity::within(activity)
     }
 
-    // The status byte that a read would give under these lines; looking at it changes nothing.
-    pub fn status(self, lines: Lines) -> Status
+    // The status byte under these lines; looking at it changes nothing.
+    fn status(self, lines: Lines) -> Status
         ensures { λ r. ⌜ r ≡ statusOf self lines ⌝ }
     {
         let flags = self.flags;
@@ -297,11 +295,9 @@ impl Machine {
         let activity = self.activity;
         let busy = activity::busy(activity);
         if flags.type1 {
-            let varying = status_byte::of_type1(head.loaded & lines.hlt, past.index, lines);
-            return status_byte::status_of(varying, flags, busy, lines.ready);
+            return status_byte::of_type1(head.loaded & lines.hlt, past.index, flags, busy, lines);
         }
-        let varying = status_byte::of_type2(flags, wires.drq);
-        status_byte::status_of(varying, flags, busy, lines.ready)
+        status_byte::of_type2(wires.drq, flags, busy, lines)
     }
 
     fn with_bus(self, regs: Regs, wires: Wires) -> Machine

@@ -5,8 +5,7 @@
 use std::process::ExitCode;
 
 use second::compare::{self, Case};
-use second::script::{self, Parsed};
-use second::{bench, generate};
+use second::{bench, generate, script};
 
 fn main() -> ExitCode {
     let arguments: Vec<String> = std::env::args().skip(1).collect();
@@ -14,20 +13,10 @@ fn main() -> ExitCode {
 }
 
 fn case(seed: u64) -> Case {
-    let script = generate::script(seed);
+    let text = generate::script(seed);
     Case {
-        expected: bench::run(script.as_bytes()),
-        asked_by: printing_lines(&script),
-        input: script.into_bytes(),
+        expected: bench::run(text.as_bytes()),
+        asked_by: script::printing_lines(&text),
+        input: text.into_bytes(),
     }
-}
-
-/// The lines of the script that print something, with their numbers.
-fn printing_lines(script: &str) -> Vec<String> {
-    script
-        .lines()
-        .enumerate()
-        .filter(|(_, text)| script::parse(text.as_bytes()) != Parsed::Empty)
-        .map(|(index, text)| format!("script line {}: {}", index + 1, text))
-        .collect()
 }

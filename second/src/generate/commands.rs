@@ -38,7 +38,7 @@ impl Generator {
     }
 
     /// TR and SR for a sector that is on the track, or for one that may not be.
-    fn choose_sector(&mut self) {
+    pub fn choose_sector(&mut self) {
         let on_track = self.sectors_on_track();
         let sector = if on_track.is_empty() || self.random.one_in(8) {
             self.random.byte()

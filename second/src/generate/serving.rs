@@ -59,7 +59,7 @@ impl Generator {
     }
 
     /// Reading as well as loading DR turns DRQ off; now and then the host does the wrong one.
-    fn serve_request(&mut self) {
+    pub fn serve_request(&mut self) {
         let writes = matches!(
             self.bench.machine.activity,
             Activity::WritingRecord(_)
@@ -98,7 +98,7 @@ impl Generator {
     }
 
     /// Settled, and HLT is off: nothing happens until the line comes on.
-    fn waits_for_head(&self) -> bool {
+    pub fn waits_for_head(&self) -> bool {
         match &self.bench.machine.activity {
             Activity::Settling(settling) => settling.left == 0 && self.wires & HEAD_LOADED == 0,
             _ => false,

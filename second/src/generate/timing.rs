@@ -86,10 +86,10 @@ impl Generator {
 
     /// Byte times that pass before the first one of the search: settling, and for a verify the
     /// one that decides to stop.
-    fn byte_times_before_search(&self, byte: u8) -> usize {
+    pub fn byte_times_before_search(&self, byte: u8) -> usize {
         let settle = usize::from(self.plan.density.settle_time());
         match byte {
-            0x14 | 0x1C => 1 + settle,
+            0x00..=0x1F => 1 + settle,
             _ if byte & 4 != 0 => settle,
             _ => 0,
         }

@@ -4,9 +4,8 @@ use super::Generator;
 use crate::density::Density;
 
 impl Generator {
-    /// Nothing where the bench has no viewer.
     pub fn viewing_scene(&mut self) {
-        if !self.bench.viewer || self.is_busy() {
+        if self.is_busy() {
             return;
         }
         if self.random.one_in(2) {

@@ -1,6 +1,8 @@
 // What the generator's scripts are like, and that together they meet everything they should.
 
 mod coverage;
+mod runs;
+mod stretches;
 
 use coverage::Coverage;
 use second::bench::{self, Bench};
@@ -138,11 +140,10 @@ fn together_the_scripts_meet_everything_they_should() {
 }
 
 #[test]
-fn with_the_viewer_the_scripts_meet_its_answers() {
+fn the_scripts_meet_the_answers_of_the_viewer() {
     let mut coverage = Coverage::default();
     for seed in 0..60 {
-        let script = generate::script_on(seed, Bench::with_viewer());
-        coverage.watch_script(Bench::with_viewer(), &script);
+        coverage.watch_script(Bench::new(), &generate::script(seed));
     }
     for answer in ["Q 00", "Q 01", "Q 04", "Q 0B"] {
         assert!(coverage.has(answer), "{}", answer);

@@ -5,6 +5,9 @@ use Rattle.chip.proofs.rings.ring_within.Statement.{statement}
 use Rattle.chip.specs.Rings.{ringWithin}
 use Rattle.chip.proofs.rings.ring_within.Tie as tie
 
+cast-length-within : tie.Need-cast-length-within
+cast-length-within c = search needs
+
 length-within-requires : tie.Need-length-within-requires
 length-within-requires c κs = search needs
 
@@ -13,4 +16,4 @@ unfolding ringWithin
 returns c = simp (sym (c .before .length-within .ensures))
 
 pub ring-within-spec : {M : Type 1} → statement M
-ring-within-spec = tie.close (tie.spec length-within-requires returns)
+ring-within-spec = tie.close (tie.spec cast-length-within length-within-requires returns)

@@ -2,51 +2,18 @@
 use mathlib.Core.Path.{sym}
 use borrow.Author.Needs.{needs}
 use Rattle.chip.proofs.status_byte.of_type1.Statement.{statement}
-use Rattle.chip.specs.Status.{type1Of}
+use Rattle.chip.specs.Status.{statusFrom}
 use Rattle.chip.proofs.status_byte.of_type1.Tie as tie
 
-bit-requires : tie.Need-bit-requires
-bit-requires c κs = search needs
+type1-bits-requires : tie.Need-type1-bits-requires
+type1-bits-requires c κs = search needs
 
-bit-requires-2 : tie.Need-bit-requires-2
-bit-requires-2 c κs = search needs
-
-add-high : tie.Need-add-high
-add-high c = search needs
-
-bit-requires-3 : tie.Need-bit-requires-3
-bit-requires-3 c κs = search needs
-
-bit-requires-4 : tie.Need-bit-requires-4
-bit-requires-4 c κs = search needs
-
-add-low : tie.Need-add-low
-add-low c = search needs
-
-add-result : tie.Need-add-result
-add-result c = search needs
+status-of-requires : tie.Need-status-of-requires
+status-of-requires c κs = search needs
 
 returns : tie.Need-returns
-unfolding type1Of
-returns c = (
-  simp (
-    sym (c .bit4 .ensures .0),
-    sym (c .before .bit3 .ensures .0),
-    sym (c .before .before .bit2 .ensures .0),
-    sym (c .before .before .before .bit .ensures .0),
-  ),
-  search needs,
-)
+unfolding statusFrom
+returns c = simp (c .status-of .ensures, sym (c .before .type1-bits .ensures .0))
 
 pub of-type1-spec : {M : Type 1} → statement M
-of-type1-spec =
-    tie.close
-    (tie.spec
-    bit-requires
-    bit-requires-2
-    add-high
-    bit-requires-3
-    bit-requires-4
-    add-low
-    add-result
-    returns)
+of-type1-spec = tie.close (tie.spec type1-bits-requires status-of-requires returns)

@@ -11,43 +11,17 @@ busy-requires c κs = search needs
 of-type1-requires : tie.Need-of-type1-requires
 of-type1-requires c κs = search needs
 
-status-of-requires : tie.Need-status-of-requires
-status-of-requires c κs = search needs
-
 returns : tie.Need-returns
 unfolding statusOf
-returns c =
-    simp (
-      c .status-of .ensures,
-      sym (c .before .of-type1 .ensures .0),
-      c .before .before .before .before .if1 .taken,
-      sym (c .before .before .before .before .before .busy .ensures),
-    )
+returns c = simp (c .of-type1 .ensures, c .before .before .before .if1 .taken, sym (c .before .before .before .before .busy .ensures))
 
 of-type2-requires : tie.Need-of-type2-requires
 of-type2-requires c κs = search needs
 
-status-of-requires-2 : tie.Need-status-of-requires-2
-status-of-requires-2 c κs = search needs
-
 returns-2 : tie.Need-returns-2
 unfolding statusOf
-returns-2 c =
-    simp (
-      c .status-of2 .ensures,
-      sym (c .before .of-type2 .ensures .0),
-      c .before .before .if1 .left,
-      sym (c .before .before .before .busy .ensures),
-    )
+returns-2 c = simp (c .of-type2 .ensures, c .before .if1 .left, sym (c .before .before .busy .ensures))
 
 pub status-spec : {M : Type 1} → statement M
 status-spec =
-    tie.close
-    (tie.spec
-    busy-requires
-    of-type1-requires
-    status-of-requires
-    returns
-    of-type2-requires
-    status-of-requires-2
-    returns-2)
+    tie.close (tie.spec busy-requires of-type1-requires returns of-type2-requires returns-2)

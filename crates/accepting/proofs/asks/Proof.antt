@@ -1,0 +1,23 @@
+-- `accepting::asks` meets its contract, by its tests and its callees' contracts. Assumes nothing.
+use mathlib.Core.List.{[], _∷_}
+use mathlib.Core.Path.{refl}
+use borrow.Author.Needs.{needs}
+use Rattle.order.proofs.Arms.{commands}
+use Rattle.order.specs.declared.Command.the-variants.{Restore, Seek, Step, StepIn, StepOut, ReadSector, WriteSector, ReadAddress, ReadTrack, ForceInterrupt}
+use Rattle.accepting.proofs.asks.Statement.{statement}
+use Rattle.accepting.specs.Accepting.{asksFirst}
+use Rattle.accepting.proofs.asks.Tie as tie
+
+enum-told : tie.Need-enum-told
+enum-told c = search needs
+
+returns : tie.Need-returns
+unfolding asksFirst
+returns c = simp (c .enum-told .given .1)
+
+returns-2 : tie.Need-returns-2
+unfolding asksFirst
+returns-2 c = commands asksFirst (c .before .args .command) (Restore ∷ Seek ∷ Step ∷ StepIn ∷ StepOut ∷ ReadSector ∷ WriteSector ∷ ReadAddress ∷ ReadTrack ∷ ForceInterrupt ∷ []) refl (c .match .keys2)
+
+pub asks-spec : {M : Type 1} → statement M
+asks-spec = tie.close (tie.spec enum-told returns returns-2)

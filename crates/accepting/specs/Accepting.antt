@@ -1,0 +1,113 @@
+-- What an accepted command does at once, by its kind: document 01, "Registers and commands". Assumes nothing.
+use mathlib.Core.Bool.{Bool, true, false, cond, not, _&&_, _||_}
+use Prim.Native.Nat.{ℕ}
+use lib.Dec.{leb}
+use Rattle.codes.specs.Bits.{bitOf, bitH, bitE, bitI0, bitI1, bitI2, bitI3}
+use Rattle.codes.specs.Times.{settleTimeOf}
+use Rattle.order.specs.declared.Command.{Command}
+use Rattle.order.specs.declared.Command.the-variants.{Restore, Seek, Step, StepIn, StepOut, ReadSector, WriteSector, ReadAddress, ReadTrack, WriteTrack, ForceInterrupt}
+use Rattle.order.specs.declared.Kind.{Kind}
+use Rattle.order.specs.declared.Kind.the-variants.{Seeks, Steps, Works, Forces}
+use Rattle.activity.specs.declared.Activity.{Activity}
+use Rattle.activity.specs.declared.Activity.the-variants as activity
+use Rattle.chip.specs.declared.Regs.{Regs}
+use Rattle.chip.specs.declared.Wires.{Wires}
+use Rattle.chip.specs.declared.Flags.{Flags}
+use Rattle.chip.specs.declared.Head.{Head}
+use Rattle.chip.specs.declared.Conditions.{Conditions}
+use Rattle.chip.specs.declared.Lines.{Lines}
+
+unfoldable pub writes : Command → Bool
+writes Restore = false
+writes Seek = false
+writes Step = false
+writes StepIn = false
+writes StepOut = false
+writes ReadSector = false
+writes WriteSector = true
+writes ReadAddress = false
+writes ReadTrack = false
+writes WriteTrack = true
+writes ForceInterrupt = false
+
+-- "not ready ends it at once ..; next, a write under protection sets bit 6 and ends it"
+unfoldable pub heldBy : Command → Lines → Bool
+heldBy command l = writes command && l .protect && l .ready
+
+-- where a command of Types II and III ends in the load itself; other commands do not ask
+abbrev pub endsAtOnce : Command → Lines → Bool
+endsAtOnce command l = heldBy command l || not (l .ready)
+
+-- "Write Track. DRQ at acceptance"
+unfoldable pub asksFirst : Command → Bool
+asksFirst Restore = false
+asksFirst Seek = false
+asksFirst Step = false
+asksFirst StepIn = false
+asksFirst StepOut = false
+asksFirst ReadSector = false
+asksFirst WriteSector = false
+asksFirst ReadAddress = false
+asksFirst ReadTrack = false
+asksFirst WriteTrack = true
+asksFirst ForceInterrupt = false
+
+-- "Restore sets TR 255, DR 0 at acceptance": the bytes to 0F are Restores
+unfoldable pub beginRegs : Regs → ℕ → Regs
+beginRegs r b = cond (leb b 0x0F) (record { tr = 255; sr = r .sr; dr = 0 }) r
+
+-- "loading an accepted command turns INTRQ off", "clears .. DRQ", "ends it at once with INTRQ"; Force Interrupt: "Bit 3 raises
+-- INTRQ at once"
+unfoldable pub beginWires : Wires → Bool → Bool → ℕ → Kind → Wires
+beginWires w asks ends b Seeks = record { drq = false; intrq = false }
+beginWires w asks ends b Steps = record { drq = false; intrq = false }
+beginWires w asks ends b Works = record { drq = asks; intrq = ends }
+beginWires w asks ends b Forces = record { drq = w .drq; intrq = bitOf b bitI3 }
+
+-- "other bits .. stay; when idle, status becomes Type I with bits 3 and 4 off"
+unfoldable pub forcedFlags : Flags → Bool → Flags
+forcedFlags f busy =
+    cond busy f
+    (record {
+      type1 = true;
+      protected = f .protected;
+      deleted = f .deleted;
+      missing = false;
+      crc = false;
+      lost = f .lost;
+    })
+
+-- "An accepted command other than Force Interrupt .. clears bits 3, 4, Lost Data, type bits", "sets bit 6"
+unfoldable pub beginFlags : Flags → Bool → Bool → Kind → Flags
+beginFlags f held busy Seeks =
+    record { type1 = true; protected = false; deleted = false; missing = false; crc = false; lost = false }
+beginFlags f held busy Steps =
+    record { type1 = true; protected = false; deleted = false; missing = false; crc = false; lost = false }
+beginFlags f held busy Works =
+    record { type1 = false; protected = held; deleted = false; missing = false; crc = false; lost = false }
+beginFlags f held busy Forces = forcedFlags f busy
+
+-- "Type I (bit 3 loads or unloads the head)", "Types II and III load the head"
+unfoldable pub beginHead : Head → Bool → ℕ → Kind → Head
+beginHead h ends b Seeks = record { loaded = bitOf b bitH; inward = h .inward }
+beginHead h ends b Steps = record { loaded = bitOf b bitH; inward = h .inward }
+beginHead h ends b Works = record { loaded = h .loaded || not ends; inward = h .inward }
+beginHead h ends b Forces = h
+
+-- "bit 2 at each index pulse, bits 0 and 1 when Ready comes on or goes off between byte times. Any later command drops these."
+unfoldable pub beginConditions : ℕ → Kind → Conditions
+beginConditions b Seeks = record { on = false; off = false; index = false }
+beginConditions b Steps = record { on = false; off = false; index = false }
+beginConditions b Works = record { on = false; off = false; index = false }
+beginConditions b Forces = record { on = bitOf b bitI0; off = bitOf b bitI1; index = bitOf b bitI2 }
+
+-- "settle for 469 (FM) or 938 (MFM) byte times if E is 1, then begin with the first byte time that has HLT on"
+unfoldable pub worksFrom : Bool → Bool → Bool → Activity
+worksFrom ends settles mfm = cond ends activity.Idle (cond settles (activity.Settle (settleTimeOf mfm)) (activity.Settle 0))
+
+-- "in its first byte time .. the machine decides"; "Force Interrupt ends a command: Busy off"
+unfoldable pub beginActivity : Bool → Bool → ℕ → Kind → Activity
+beginActivity ends mfm b Seeks = activity.Seek 1
+beginActivity ends mfm b Steps = activity.Pulse
+beginActivity ends mfm b Works = worksFrom ends (bitOf b bitE) mfm
+beginActivity ends mfm b Forces = activity.Idle

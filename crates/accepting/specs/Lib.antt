@@ -1,0 +1,2 @@
+-- The definitions that the contracts of `accepting` cite.
+pub mod Accepting

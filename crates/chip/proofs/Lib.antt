@@ -1,2 +1,0 @@
--- What the proofs of `chip` share.
-pub mod Arms

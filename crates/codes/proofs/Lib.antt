@@ -1,0 +1,2 @@
+-- The cases that are proved.
+pub mod Cases

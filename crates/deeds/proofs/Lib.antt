@@ -1,0 +1,2 @@
+-- What the proofs of `deeds` share.
+pub mod Arms

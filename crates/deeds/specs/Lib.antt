@@ -1,0 +1,2 @@
+-- The definitions that the contracts of `deeds` cite.
+pub mod Deeds

@@ -1,0 +1,7 @@
+-- What the proofs of `list` share, and that its listing is complete.
+pub mod Putting
+pub mod Rounds
+pub mod Printing
+pub mod Stepping
+pub mod Complete
+pub mod Pictures

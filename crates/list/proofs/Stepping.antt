@@ -1,0 +1,75 @@
+-- A step of the program, by what its calls say. Assumes nothing.
+use mathlib.Core.Path.{_≡_, refl, sym, ap, ap₂, _∙_}
+use mathlib.Core.Bool.{true, false, _&&_}
+use mathlib.Core.List.{List, []}
+use Prim.Native.Nat.{ℕ, _-_}
+use lib.Dec.{eqb}
+use lib.ListN.{length, take}
+use lib.Seq.{sets, length-take-le}
+use borrow.Author.Tests.{eqb-true}
+use Rattle.common.proofs.Cases.{both}
+use Rattle.picture.specs.Cells.{laid}
+use Rattle.picture.specs.Reader.{verdictOf, refusedBy, answerOf, filledOf, readOf, roomOf}
+use Rattle.list.specs.declared.listing.Printed.{Printed}
+use Rattle.list.specs.declared.Run.{Run}
+use Rattle.list.specs.Input.{Filled, moved}
+use Rattle.list.specs.Lines.{Put}
+use Rattle.list.specs.Listing.{textOf, refusedAt, printedOf}
+use Rattle.list.specs.Steps.{stepText, stepOf, Stepped}
+
+-- no byte is left: the reader refuses, writes nothing and takes nothing
+none-goes : (room : ℕ) → record { held = 0; listed = true; over = true } ≡ stepOf [] room
+unfolding stepOf refusedAt readOf answerOf verdictOf refusedBy
+none-goes room = refl
+
+none-cells : (room : List ℕ) → room ≡ roomOf [] room
+unfolding roomOf filledOf verdictOf
+none-cells room = refl
+
+module _ (run : Run) (bytes room out filled : List ℕ) (held : ℕ) (fills : Filled bytes (run .held) filled held) where
+  -- the input is at its end behind a picture
+  pub ended : (eqb held 0 && run .listed) ≡ true
+      → Stepped run bytes room out (record { held = held; listed = true; over = true }) filled room out
+  unfolding stepText laid
+  ended over =
+      let parts = both (eqb held 0) (run .listed) over in
+      let none : held ≡ 0 = eqb-true held 0 (parts .0) in
+      record {
+        filled = filled;
+        held = held;
+        fills = fills;
+        goes = rw none (none-goes (length room));
+        left = rw none refl;
+        cells = rw none (none-cells room);
+        text = rw (none, parts .1) refl;
+      }
+
+  -- the next picture is listed or refused
+  pub listed :
+      (printed : Printed) (left : ℕ) (bytes′ room′ out′ : List ℕ)
+      → (eqb held 0 && run .listed) ≡ false
+      → printed ≡ printedOf (take held filled) room
+      → Put out 0 (textOf (take held filled) room) out′ (printed .at)
+      → room′ ≡ roomOf (take held filled) room
+      → left ≡ held - printed .taken
+      → bytes′ ≡ moved filled (printed .taken) (held - printed .taken)
+      → Stepped run bytes room out (record { held = left; listed = true; over = printed .refused }) bytes′ room′ out′
+  unfolding stepText stepOf printedOf
+  listed printed left bytes′ room′ out′ test is put cells behind moves =
+      let all : length (take held filled) ≡ held = length-take-le held filled (fills .within) in
+      let taken : printed .taken ≡ readOf (take held filled) (length room) .taken = ap (λ (p : Printed). p .taken) is in
+      let there : stepText (run .listed) (take held filled) room ≡ textOf (take held filled) room = rw (all, test) refl in
+      record {
+        filled = filled;
+        held = held;
+        fills = fills;
+        goes = λ i.
+            record {
+              held = (behind ∙ ap₂ (λ (n m : ℕ). n - m) (sym all) taken) i;
+              listed = true;
+              over = is i .refused;
+            };
+        left = moves ∙ ap₂ (λ (n m : ℕ). moved filled n m) taken (sym behind);
+        cells = cells;
+        text = put .buffer ∙ ap (λ (t : List ℕ). sets out 0 t) (sym there);
+      }

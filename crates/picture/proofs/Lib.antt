@@ -1,0 +1,6 @@
+-- What the proofs of `picture` share, and the laws of pictures.
+pub mod Verdicts
+pub mod Shifts
+pub mod Laying
+pub mod Laws
+pub mod Padding

@@ -1,0 +1,187 @@
+// Pictures of tracks, and their reader.
+ghost use mathlib.Core.Path.{_≡_};
+ghost use Prim.Native.Nat.{_+_, _≤_, _<_};
+ghost use lib.ListN.{length};
+ghost use Rattle.picture.specs.Kinds.{kindOf, mfmOf, lengthOf, bodyOf};
+ghost use Rattle.picture.specs.Cells.{cellFrom, cellsIn};
+ghost use Rattle.picture.specs.Reader.{paddingClear, soundOf, judgedFor, judgedOf, verdictOf};
+ghost use Rattle.picture.specs.Reader.{refusedBy, takenFrom, readOf, roomOf};
+
+// What a picture can be of. Density and length of a kind stand here, and nowhere else.
+pub enum Kind {
+    Fm,
+    Mfm,
+}
+
+// What a picture's first byte stands for.
+enum Named {
+    Known(Kind),
+    Unknown,
+}
+
+// What the reader says before it writes a cell: a whole picture of a kind, or a refusal by its number.
+enum Verdict {
+    Sound(Kind),
+    Refused(u8),
+}
+
+// The reader's answer. A refused picture is given as FM, with track and side 0 and no byte taken.
+pub struct Answer {
+    pub number: u8,
+    pub kind: Kind,
+    pub track: u8,
+    pub side: u8,
+    pub taken: usize,
+}
+
+fn kind_of(byte: u8) -> Named
+    ensures { λ r. ⌜ r ≡ kindOf byte ⌝ }
+{
+    if byte == 0x46 {
+        Named::Known(Kind::Fm)
+    } else if byte == 0x4D {
+        Named::Known(Kind::Mfm)
+    } else {
+        Named::Unknown
+    }
+}
+
+impl Kind {
+    pub fn mfm(self) -> bool
+        ensures { λ r. ⌜ r ≡ mfmOf self ⌝ }
+    {
+        match self {
+            Kind::Fm => false,
+            Kind::Mfm => true,
+        }
+    }
+
+    // The cells of the track.
+    pub fn length(self) -> usize
+        ensures { λ r. ⌜ r ≡ lengthOf self ⌝ }
+        ensures { λ r. ⌜ (2048 ≤ r) × (r ≤ 6400) ⌝ }
+    {
+        match self {
+            Kind::Fm => 3125,
+            Kind::Mfm => 6250,
+        }
+    }
+
+    // The bytes behind the kind's: track, side, data and flags.
+    fn body(self) -> usize
+        ensures { λ r. ⌜ r ≡ bodyOf self ⌝ }
+        ensures { λ r. ⌜ (2 ≤ r) × (r ≤ 7202) ⌝ }
+    {
+        let cells = self.length();
+        2 + cells + (cells + 7) / 8
+    }
+}
+
+// The bits of the last flag byte behind that of the last cell are 0. Where every bit is a cell's, there are none.
+fn padding_clear(cells: usize, last: u8) -> bool
+    ensures { λ r. ⌜ r ≡ paddingClear cells last ⌝ }
+{
+    (last as usize) % (1 << ((8 - cells % 8) % 8)) == 0
+}
+
+fn sound(kind: Kind, bytes: &[u8]) -> bool
+    requires { ⌜ bodyOf kind < length (now bytes) ⌝ }
+    ensures { λ r. ⌜ r ≡ soundOf kind (now (bytes .entry)) ⌝ }
+{
+    let last = kind.body();
+    (bytes[2] <= 1) & padding_clear(kind.length(), bytes[last])
+}
+
+fn judge_for(kind: Kind, bytes: &[u8], room: usize) -> Verdict
+    ensures { λ r. ⌜ r ≡ judgedFor (now (bytes .entry)) room kind ⌝ }
+{
+    if bytes.len() <= kind.body() {
+        return Verdict::Refused(9);
+    }
+    if room < kind.length() {
+        return Verdict::Refused(12);
+    }
+    if sound(kind, bytes) {
+        return Verdict::Sound(kind);
+    }
+    Verdict::Refused(10)
+}
+
+fn judge_named(named: Named, bytes: &[u8], room: usize) -> Verdict
+    ensures { λ r. ⌜ r ≡ judgedOf (now (bytes .entry)) room named ⌝ }
+{
+    match named {
+        Named::Known(kind) => judge_for(kind, bytes, room),
+        Named::Unknown => Verdict::Refused(8),
+    }
+}
+
+// Whether the bytes begin with a picture that fits a room of so many cells.
+fn judge(bytes: &[u8], room: usize) -> Verdict
+    ensures { λ r. ⌜ r ≡ verdictOf (now (bytes .entry)) room ⌝ }
+{
+    if bytes.len() == 0 {
+        return Verdict::Refused(9);
+    }
+    judge_named(kind_of(bytes[0]), bytes, room)
+}
+
+// A cell: its byte, and 256 where its flag bit is 1. Eight cells share a flag byte, the first at bit 7.
+fn cell(byte: u8, flags: u8, place: usize) -> u16
+    ensures { λ r. ⌜ r ≡ cellFrom byte flags place ⌝ }
+{
+    byte as u16 + ((flags >> (7 - place % 8)) % 2) as u16 * 256
+}
+
+// The cells of a picture go to the room's first places.
+fn lay(kind: Kind, bytes: &[u8], room: &mut [u16])
+    requires { ⌜ (bodyOf kind < length (now bytes)) × (lengthOf kind ≤ length (now room)) ⌝ }
+    ensures { λ _. ⌜ now (room .exit) ≡ cellsIn kind (now (bytes .entry)) (now (room .entry)) ⌝ }
+{
+    let cells = kind.length();
+    let mut i = 0;
+    while i < cells {
+        room[i] = cell(bytes[3 + i], bytes[3 + cells + i / 8], i);
+        i += 1;
+    }
+}
+
+fn refused(number: u8) -> Answer
+    ensures { λ r. ⌜ r ≡ refusedBy number ⌝ }
+{
+    Answer {
+        number,
+        kind: Kind::Fm,
+        track: 0,
+        side: 0,
+        taken: 0,
+    }
+}
+
+fn taken(kind: Kind, bytes: &[u8]) -> Answer
+    requires { ⌜ bodyOf kind < length (now bytes) ⌝ }
+    ensures { λ r. ⌜ r ≡ takenFrom (now (bytes .entry)) kind ⌝ }
+{
+    let body = kind.body();
+    Answer {
+        number: 0,
+        kind,
+        track: bytes[1],
+        side: bytes[2],
+        taken: body + 1,
+    }
+}
+
+// Reads the first picture of the bytes into the room.
+pub fn read(bytes: &[u8], room: &mut [u16]) -> Answer
+    ensures { λ r. ⌜ r ≡ readOf (now (bytes .entry)) (length (now (room .entry))) ⌝ }
+    ensures { λ _. ⌜ now (room .exit) ≡ roomOf (now (bytes .entry)) (now (room .entry)) ⌝ }
+{
+    match judge(bytes, room.len()) {
+        Verdict::Sound(kind) => {
+            lay(kind, bytes, room);
+            taken(kind, bytes)
+        }
+        Verdict::Refused(number) => refused(number),
+    }
+}

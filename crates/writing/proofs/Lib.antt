@@ -1,0 +1,2 @@
+-- What the definition of a written field comes to.
+pub mod Laws

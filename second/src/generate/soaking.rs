@@ -1,0 +1,69 @@
+// The scenes of a soak, and Write Track by a host that comes often.
+
+use super::timing::RECORDS;
+use super::{forcing, Generator, HEAD_LOADED, READY};
+
+/// The longest run of a host that looks at DRQ often.
+const SHORT_RUN: usize = 4;
+
+impl Generator {
+    /// Most scenes are long waits, the others of every kind. Whole tracks are formatted here
+    /// alone, since that takes thousands of lines.
+    pub fn soaking_scene(&mut self) {
+        match self.random.below(80) {
+            0 => self.new_ring(),
+            1 => {
+                let rounds = 3 * self.plan.length;
+                self.formatting_scene(rounds);
+                self.show_row();
+            }
+            2..=5 => self.scene(),
+            6..=15 => {
+                let record = self.random.pick(&RECORDS);
+                self.record_scene(record);
+            }
+            16..=18 => self.chain_scene(),
+            19..=26 => {
+                let pair = self.random.pick(&forcing::pairs());
+                self.forcing_scene(pair);
+            }
+            27..=30 => self.beginning_scene(),
+            _ => self.stretching_scene(),
+        }
+    }
+
+    /// Another length and density; what was written on the old row is shown before it goes.
+    pub fn new_ring(&mut self) {
+        self.show_row();
+        self.power_on();
+    }
+
+    /// Write Track by a host that looks at DRQ after every few byte times, for so many rounds.
+    pub fn formatting_scene(&mut self, rounds: usize) {
+        self.set_wires(READY | HEAD_LOADED);
+        let before = self.random.between(0, 40);
+        self.put_head(self.plan.length - before);
+        let byte = self.random.pick(&[0xF0, 0xF0, 0xF0, 0xF4]);
+        self.load(0, byte);
+        let misses_one_in = self.random.pick(&[8, 40, 400]);
+        for _ in 0..rounds {
+            if !self.is_busy() {
+                break;
+            }
+            if self.bench.machine.data_request && !self.random.one_in(misses_one_in) {
+                self.serve_request();
+            }
+            let limit = self.random.between(1, SHORT_RUN);
+            self.go(limit);
+        }
+        self.end_command();
+        self.show_round_head();
+    }
+
+    /// Cells that a write may just have changed.
+    pub fn show_round_head(&mut self) {
+        let place = usize::from(self.bench.machine.position).saturating_sub(40);
+        let count = 64.min(self.plan.length - place);
+        self.say(format!("V {:X} {:X}", place, count));
+    }
+}

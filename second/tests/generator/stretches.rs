@@ -1,0 +1,89 @@
+// That the scripts put every edge in the way of a shortcut over uneventful byte times.
+
+use crate::runs::Runs;
+use second::generate;
+
+const SEEDS: u64 = 300;
+/// What a run may begin in and pass at once.
+const WAITS: [&str; 4] = ["Idle", "Settling", "Waiting", "Searching"];
+/// What runs of each wait must meet.
+const EDGES: [&str; 21] = [
+    "limit 0",
+    "limit 1",
+    "limit 2",
+    "limit before the pulse",
+    "limit at the pulse",
+    "limit behind the pulse",
+    "limit before the flagged cell",
+    "limit at the flagged cell",
+    "limit behind the flagged cell",
+    "begins at 0",
+    "begins at 1",
+    "begins at L - 1",
+    "ends at 0",
+    "ends at 1",
+    "ends at L - 1",
+    "refused at once",
+    "refused at 0",
+    "refused at L - 1",
+    "flagged cell at 0",
+    "flagged cell at L - 1",
+    "DRQ on",
+];
+/// What runs of single waits must meet. While Busy no INTRQ is on, and no settling goes round.
+const SINGLE_EDGES: [&str; 24] = [
+    "Idle: refused at behind the head",
+    "Idle: flagged cell at behind the head",
+    "Idle: INTRQ on",
+    "Idle: index condition",
+    "Idle: index condition at once",
+    "Idle: Ready comes on",
+    "Idle: Ready goes off",
+    "Idle: FFFF byte times",
+    "Settling: limit before the settling's end",
+    "Settling: limit at the settling's end",
+    "Settling: limit behind the settling's end",
+    "Settling: over with HLT off",
+    "Settling: over at 0",
+    "Settling: over at 1",
+    "Settling: over at L - 1",
+    "Settling: index bit told behind the run",
+    "Waiting: refused at behind the head",
+    "Waiting: flagged cell at behind the head",
+    "Waiting: index bit told behind the run",
+    "Searching: refused at behind the head",
+    "Searching: flagged cell at behind the head",
+    "Searching: index bit told behind the run",
+    "AwaitingIndex: limit before the pulse",
+    "AwaitingIndex: limit at the pulse",
+];
+
+fn missing(runs: &Runs) -> Vec<String> {
+    let mut keys: Vec<String> = Vec::new();
+    for density in ["FM", "MFM"] {
+        for wait in WAITS {
+            keys.extend(EDGES.map(|edge| format!("{} {}: {}", density, wait, edge)));
+        }
+        keys.extend(SINGLE_EDGES.map(|edge| format!("{} {}", density, edge)));
+    }
+    keys.retain(|key| !runs.has(key));
+    keys
+}
+
+#[test]
+fn together_the_scripts_meet_every_edge() {
+    let mut runs = Runs::default();
+    for seed in (0..SEEDS).filter(|&seed| generate::has_long_waits(seed)) {
+        runs.watch_script(&generate::script(seed));
+    }
+    assert_eq!(missing(&runs), Vec::<String>::new());
+}
+
+#[test]
+fn a_soak_meets_every_edge() {
+    let mut runs = Runs::default();
+    for seed in 0..20 {
+        runs.watch_script(&generate::long_script(seed, 200_000).text);
+    }
+    assert_eq!(missing(&runs), Vec::<String>::new());
+}
