@@ -6,6 +6,7 @@ mod forcing;
 mod formatting;
 mod refusing;
 mod serving;
+mod settling;
 mod soaking;
 mod sparse;
 mod stretching;
@@ -123,6 +124,7 @@ pub fn has_long_waits(seed: u64) -> bool {
 pub fn long_script(seed: u64, byte_times: u64) -> LongScript {
     let mut generator = Generator::new(seed, Bench::new());
     generator.begin();
+    generator.take_soaking_turns(seed);
     while generator.bench.byte_times < byte_times {
         generator.soaking_scene();
     }

@@ -6,7 +6,19 @@ use super::{forcing, Generator, HEAD_LOADED, READY};
 /// The longest run of a host that looks at DRQ often.
 const SHORT_RUN: usize = 4;
 
+/// Type I commands that each long script gives in its turn.
+const TYPE_ONE_TURNS: u64 = 6;
+
 impl Generator {
+    /// What some scripts in a row must meet completely: each Type I command. Of the others there
+    /// are fewer, and chance gives them all.
+    pub fn take_soaking_turns(&mut self, seed: u64) {
+        for turn in 0..TYPE_ONE_TURNS {
+            let number = seed.wrapping_mul(TYPE_ONE_TURNS).wrapping_add(turn);
+            self.command_stretch((number % 0x80) as u8);
+        }
+    }
+
     /// Most scenes are long waits, the others of every kind. Whole tracks are formatted here
     /// alone, since that takes thousands of lines.
     pub fn soaking_scene(&mut self) {

@@ -34,7 +34,11 @@ impl Generator {
             }
             4 => self.unserved_stretch(),
             5..=9 => self.idle_stretch(),
-            _ => self.command_stretch(),
+            10..=12 => self.settling_stretch(),
+            _ => {
+                let byte = self.waiting_command();
+                self.command_stretch(byte);
+            }
         }
     }
 
@@ -69,8 +73,7 @@ impl Generator {
 
     /// A command that waits; the head stands so that the command, or its search, begins at an
     /// edge.
-    fn command_stretch(&mut self) {
-        let byte = self.waiting_command();
+    pub fn command_stretch(&mut self, byte: u8) {
         self.choose_sector();
         if self.random.one_in(2) {
             self.ask_in_vain();
@@ -121,6 +124,7 @@ impl Generator {
     fn choose_waiting_wires(&mut self) {
         let wires = self.random.pick(&[
             READY | TRACK_0,
+            READY | TRACK_0,
             READY | HEAD_LOADED,
             READY | HEAD_LOADED | TRACK_0,
             READY | HEAD_LOADED | TRACK_0,
@@ -135,18 +139,6 @@ impl Generator {
         self.put_head(edge + self.plan.length - before);
         for _ in 0..self.random.pick(&[0, 0, 0, 1, 1, 2]) {
             self.add_obstacle();
-        }
-    }
-
-    /// Stepping and settling, each passed exactly to its end.
-    fn pass_to_search(&mut self) {
-        for _ in 0..3 {
-            let left = match &self.bench.machine.activity {
-                Activity::Stepping(stepping) => stepping.wait,
-                Activity::Settling(settling) if settling.left > 0 => settling.left,
-                _ => return,
-            };
-            self.go(usize::from(left));
         }
     }
 
@@ -226,7 +218,7 @@ impl Generator {
 
     /// A run leaves more than its line prints. Two Force Interrupts make the status one of Type
     /// I, which has the index bit; an edge, or none, tells how Ready was last seen.
-    fn tell_what_is_hidden(&mut self) {
+    pub fn tell_what_is_hidden(&mut self) {
         self.load(0, 0xD0);
         self.load(0, 0xD3);
         if self.random.one_in(2) {

@@ -84,7 +84,7 @@ impl Begun {
         (self.head() + self.row.len() - 1) % self.row.len()
     }
 
-    /// The machine was in range, the row of its length, and nothing stopped the first byte time.
+    /// Neither 2 nor 3 refuses the run.
     fn could_begin(&self) -> bool {
         self.machine.is_in_range() && self.row.len() == usize::from(self.machine.length)
     }
@@ -226,7 +226,7 @@ impl Runs {
             let met = begun.until(|other| other == place);
             let flagged = field::is_flagged(begun.row[place]);
             if flagged && met.map_or(false, |count| count <= passed) {
-                self.note_run(begun, &format!("flagged cell at {}", name));
+                self.note_run(begun, &format!("flagged cell {}", name));
             }
         }
     }
@@ -266,7 +266,7 @@ impl Runs {
             return;
         }
         for (name, _) in watched_cells(begun).iter().filter(|cell| cell.1 == place) {
-            self.note_run(begun, &format!("refused at {}", name));
+            self.note_run(begun, &format!("refused {}", name));
         }
     }
 
@@ -287,8 +287,8 @@ impl Runs {
 /// The cells that a shortcut could miss.
 fn watched_cells(begun: &Begun) -> [(&'static str, usize); 3] {
     [
-        ("0", 0),
-        ("L - 1", begun.row.len() - 1),
+        ("at 0", 0),
+        ("at L - 1", begun.row.len() - 1),
         ("behind the head", begun.behind_head()),
     ]
 }

@@ -1,9 +1,15 @@
 // That the scripts put every edge in the way of a shortcut over uneventful byte times.
 
+use crate::coverage::Coverage;
 use crate::runs::Runs;
+use second::bench::Bench;
+use second::command::Command;
 use second::generate;
 
 const SEEDS: u64 = 300;
+/// Half of what `./test long` soaks for.
+const SOAK_SEEDS: u64 = 25;
+const SOAK_BYTE_TIMES: u64 = 200_000;
 /// What a run may begin in and pass at once.
 const WAITS: [&str; 4] = ["Idle", "Settling", "Waiting", "Searching"];
 /// What runs of each wait must meet.
@@ -32,8 +38,8 @@ const EDGES: [&str; 21] = [
 ];
 /// What runs of single waits must meet. While Busy no INTRQ is on, and no settling goes round.
 const SINGLE_EDGES: [&str; 24] = [
-    "Idle: refused at behind the head",
-    "Idle: flagged cell at behind the head",
+    "Idle: refused behind the head",
+    "Idle: flagged cell behind the head",
     "Idle: INTRQ on",
     "Idle: index condition",
     "Idle: index condition at once",
@@ -48,11 +54,11 @@ const SINGLE_EDGES: [&str; 24] = [
     "Settling: over at 1",
     "Settling: over at L - 1",
     "Settling: index bit told behind the run",
-    "Waiting: refused at behind the head",
-    "Waiting: flagged cell at behind the head",
+    "Waiting: refused behind the head",
+    "Waiting: flagged cell behind the head",
     "Waiting: index bit told behind the run",
-    "Searching: refused at behind the head",
-    "Searching: flagged cell at behind the head",
+    "Searching: refused behind the head",
+    "Searching: flagged cell behind the head",
     "Searching: index bit told behind the run",
     "AwaitingIndex: limit before the pulse",
     "AwaitingIndex: limit at the pulse",
@@ -82,8 +88,27 @@ fn together_the_scripts_meet_every_edge() {
 #[test]
 fn a_soak_meets_every_edge() {
     let mut runs = Runs::default();
-    for seed in 0..20 {
-        runs.watch_script(&generate::long_script(seed, 200_000).text);
+    for seed in 0..SOAK_SEEDS {
+        runs.watch_script(&generate::long_script(seed, SOAK_BYTE_TIMES).text);
     }
     assert_eq!(missing(&runs), Vec::<String>::new());
+}
+
+#[test]
+fn a_soak_gives_every_command() {
+    let mut coverage = Coverage::default();
+    for seed in 0..SOAK_SEEDS {
+        let long = generate::long_script(seed, SOAK_BYTE_TIMES);
+        coverage.watch_script(Bench::new(), &long.text);
+    }
+    let mut keys: Vec<String> = Vec::new();
+    for byte in (0..=255).filter(|&byte| Command::decode(byte).is_some()) {
+        match byte {
+            0xD0..=0xDF => keys
+                .extend(["FM", "MFM"].map(|density| format!("command {:02X} {}", byte, density))),
+            _ => keys.push(format!("command {:02X}", byte)),
+        }
+    }
+    keys.retain(|key| !coverage.has(key));
+    assert_eq!(keys, Vec::<String>::new());
 }
