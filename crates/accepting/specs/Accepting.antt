@@ -56,8 +56,8 @@ asksFirst ForceInterrupt = false
 unfoldable pub beginRegs : Regs → ℕ → Regs
 beginRegs r b = cond (leb b 0x0F) (record { tr = 255; sr = r .sr; dr = 0 }) r
 
--- "loading an accepted command turns INTRQ off", "clears .. DRQ", "ends it at once with INTRQ"; Force Interrupt: "Bit 3 raises
--- INTRQ at once"
+-- "loading an accepted command turns INTRQ off", "clears .. DRQ", "ends it at once with INTRQ"; Force Interrupt: "Bit 3
+-- raises INTRQ at once"
 unfoldable pub beginWires : Wires → Bool → Bool → ℕ → Kind → Wires
 beginWires w asks ends b Seeks = record { drq = false; intrq = false }
 beginWires w asks ends b Steps = record { drq = false; intrq = false }
@@ -87,14 +87,15 @@ beginFlags f held busy Works =
     record { type1 = false; protected = held; deleted = false; missing = false; crc = false; lost = false }
 beginFlags f held busy Forces = forcedFlags f busy
 
--- "Type I (bit 3 loads or unloads the head)", "Types II and III load the head"
+-- "Type I (bit 3 loads or unloads the head)", "Types II and III load the head": one that ends at once loads none (decision 7)
 unfoldable pub beginHead : Head → Bool → ℕ → Kind → Head
 beginHead h ends b Seeks = record { loaded = bitOf b bitH; inward = h .inward }
 beginHead h ends b Steps = record { loaded = bitOf b bitH; inward = h .inward }
 beginHead h ends b Works = record { loaded = h .loaded || not ends; inward = h .inward }
 beginHead h ends b Forces = h
 
--- "bit 2 at each index pulse, bits 0 and 1 when Ready comes on or goes off between byte times. Any later command drops these."
+-- "bit 2 at each index pulse, bits 0 and 1 when Ready comes on or goes off between byte times. Any later command drops
+-- these."
 unfoldable pub beginConditions : ℕ → Kind → Conditions
 beginConditions b Seeks = record { on = false; off = false; index = false }
 beginConditions b Steps = record { on = false; off = false; index = false }

@@ -23,8 +23,8 @@ use Rattle.order.specs.declared.Order.{Order}
 use Rattle.order.specs.declared.Job.{Job}
 use Rattle.order.specs.declared.Job.the-variants as job
 use Rattle.activity.specs.declared.Seen.{Seen}
-use Rattle.search.specs.Search.{pulsesOf, matchesFor, servedOf, afresh, foundOf, hearsOf, searchedOf}
-use Rattle.reading.specs.Reading.{missedOf, metOf, awaitedOf, againOf, readOf, addressBegun, huntedOf, huntOf, addressOf, trackReadOf}
+use Rattle.search.specs.Search.{pulsesOf, matchesFor, servedOf, afresh, foundOf, hearsOf, searchedOf, againOf}
+use Rattle.reading.specs.Reading.{missedOf, metOf, awaitedOf, readOf, addressBegun, huntedOf, huntOf, addressOf, trackReadOf}
 use Rattle.writing.specs.Writing.{lastKept, lastZero, markPlace, chosenMark, preambleNext, preambleOf, putOf}
 use Rattle.activity.specs.Limits.{scanWithin, countsWithin}
 use Rattle.act.proofs.ScanWithin.{GoesOnWithin, passed-within, sought-within, heard-within}

@@ -12,7 +12,7 @@ use Rattle.order.specs.declared.Job.the-variants as job
 use Rattle.activity.specs.declared.Seen.{Seen}
 use Rattle.activity.specs.declared.Activity.{Activity}
 use Rattle.activity.specs.declared.Activity.the-variants.{Idle, Seek, Pulse, Stop, Settle, Search, Window, Data, Hunt, Address, Await, TrackRead, Preamble, Put, Format, FormatCrc}
-use Rattle.writing.specs.Writing.{takenOf}
+use Rattle.activity.specs.Acts.{takenOf}
 use Rattle.formatting.specs.Formatting.{untilLast, formatOf, formatCrcOf}
 use Rattle.act.specs.Turns.{begunOf, openedOf, settledOf, enteredOf, awaitingOf, reactedOf, actOf}
 use Rattle.activity.specs.Limits.{scanWithin, countsWithin}

@@ -1,5 +1,6 @@
 // What the controller can be doing, and what a byte time sees and does.
 ghost use mathlib.Core.Path.{_≡_};
+ghost use Rattle.activity.specs.Acts.{takenOf};
 ghost use Rattle.activity.specs.Limits.{busyIn, scanWithin, countsWithin};
 use scan::Scan;
 
@@ -83,6 +84,13 @@ pub struct Act {
     pub next: Activity,
     pub deed: Deed,
     pub cell: u16,
+}
+
+// The byte that a written cell takes.
+pub fn taken(s: Seen) -> u8
+    ensures { λ r. ⌜ r ≡ takenOf s ⌝ }
+{
+    if s.drq { 0x00 } else { s.dr }
 }
 
 // A command is under way.

@@ -1,27 +1,21 @@
--- The cells of a machine that power-on gives fit a row's room, and so do those of a part of a row. Assumes nothing.
+-- The cells of a track that power-on takes fit a row's room, and so do those of a part of a row. Assumes nothing.
 use mathlib.Core.Path.{_≡_}
-use mathlib.Core.Bool.{Bool}
+use mathlib.Core.Bool.{true}
 use mathlib.Core.List.{List}
 use Prim.Native.Nat.{ℕ, _-_, _≤_}
 use native.Mathlib.Omega.{arith}
 use lib.Dec.{leb}
 use lib.ListN.{length, take, length-take, length-drop}
 use borrow.Author.Tests.{leb-true}
-use Rattle.common.proofs.Cases.{by-cond, both}
+use Rattle.common.proofs.Cases.{both}
 use Rattle.scan.specs.Rows.{lengthWithin}
-use Rattle.wd.specs.Machines.{poweredOf}
-use Rattle.wd.specs.declared.Started.{Started}
 use Rattle.viewer.specs.declared.Place.{Place}
 use Rattle.viewer.specs.declared.Place.the-variants.{Zero, One, Refused}
 use Rattle.viewer.specs.Views.{partOf, viewOf}
 
-pub powered-fits : (cells : ℕ) (mfm : Bool) (s : Started) → s ≡ poweredOf cells mfm → s .number ≡ 0 → cells ≤ 6400
-unfolding poweredOf lengthWithin
-powered-fits cells mfm s e z =
-    by-cond (λ (x : Started). x .number ≡ 0 → cells ≤ 6400) (lengthWithin cells)
-    (λ taken _. leb-true cells 6400 (both (leb 2048 cells) (leb cells 6400) taken .1))
-    (λ _ refused. absurd (omega arith))
-    (rw e at z)
+pub within-fits : (cells : ℕ) → lengthWithin cells ≡ true → cells ≤ 6400
+unfolding lengthWithin
+within-fits cells e = leb-true cells 6400 (both (leb 2048 cells) (leb cells 6400) e .1)
 
 pub taken-fits : (n : ℕ) (row : List ℕ) → n ≤ 6400 → length (take n row) ≤ 6400
 taken-fits n row h = simp length-take (omega arith)

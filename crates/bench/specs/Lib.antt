@@ -1,5 +1,5 @@
--- What the functions of `bench` give, and what holds of the bench from line to line and of a session from byte to byte.
+-- What the functions of `bench` give, and what holds of the rows from line to line.
 pub mod Numbers
 pub mod Rows
-pub mod Benches
-pub mod Sessions
+pub mod Tasks
+pub mod States

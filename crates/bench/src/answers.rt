@@ -1,122 +1,102 @@
-// What a line that was carried out prints.
-ghost use Prim.Native.Nat.{_≤_};
-ghost use lib.ListN.{length};
-ghost use Rattle.bench.specs.Benches.{Fits, Room};
-use crate::benches::Answer;
-use crate::benches::Bench;
+// What a line that worked the controller prints: its letter, what the call gave, and the state.
+ghost use mathlib.Core.Path.{_≡_};
+ghost use Rattle.bench.specs.States.{stateOf};
 use crate::output;
 use crate::output::Buffer;
+use chip::Lines;
+use chip::Regs;
+use chip::Wires;
+use wd::Machine;
 use wd::Tally;
 
-// The state: status byte, TR, SR, DR, DRQ, INTRQ and head position.
-fn put_state(out: &mut Buffer, waiting: u16, bench: Bench) -> u16 {
-    let machine = bench.machine;
+// What a call gave.
+pub enum Answer {
+    Nothing,
+    // A number of document 01.
+    Number(u8),
+    // The same, and a byte.
+    Byte(u8, u8),
+    // The same, and what passed.
+    Run(u8, Tally),
+}
+
+// The status byte that a read would give, TR, SR and DR, DRQ and INTRQ, and the head's position.
+pub struct State {
+    pub status: u8,
+    pub regs: Regs,
+    pub wires: Wires,
+    pub position: u16,
+}
+
+// What a line that worked the controller prints behind its letter.
+pub struct Told {
+    pub answer: Answer,
+    pub state: State,
+}
+
+// What a call gave, and the state of the machine under its drive lines. What the read of the status would change is dropped.
+pub fn with_state(machine: Machine, lines: Lines, answer: Answer) -> Told
+    ensures { λ r. ⌜ r .state ≡ stateOf machine lines ⌝ }
+{
+    let read = machine.read_register(lines, 0);
     let regs = machine.regs;
     let wires = machine.wires;
     let ring = machine.ring;
-    let waiting = output::put_all(out, waiting, b" |");
-    let waiting = output::put_byte(out, waiting, bench.status());
-    let waiting = output::put_byte(out, waiting, regs.tr);
-    let waiting = output::put_byte(out, waiting, regs.sr);
-    let waiting = output::put_byte(out, waiting, regs.dr);
-    let waiting = output::put_flag(out, waiting, wires.drq);
-    let waiting = output::put_flag(out, waiting, wires.intrq);
-    output::put_word(out, waiting, ring.position)
+    Told {
+        answer,
+        state: State {
+            status: read.byte,
+            regs,
+            wires,
+            position: ring.position,
+        },
+    }
 }
 
-// Byte times passed, pulses in, pulses out.
-fn put_tally(out: &mut Buffer, waiting: u16, tally: Tally) -> u16 {
-    let waiting = output::put_word(out, waiting, tally.passed);
-    let waiting = output::put_word(out, waiting, tally.inward);
-    output::put_word(out, waiting, tally.outward)
+fn put_state(out: &mut Buffer, waiting: u16, state: State) -> u16 {
+    let regs = state.regs;
+    let wires = state.wires;
+    let bytes = [
+        state.status as u16,
+        regs.tr as u16,
+        regs.sr as u16,
+        regs.dr as u16,
+    ];
+    let flags = [wires.drq as u16, wires.intrq as u16];
+    let bar = output::put_all(out, waiting, b" |");
+    let first = output::put_numbers(out, bar, 2, &bytes);
+    let second = output::put_numbers(out, first, 1, &flags);
+    output::put_numbers(out, second, 4, &[state.position])
 }
 
-// The viewer's number, how many cells its part has, and the cells.
-fn put_view<'a>(
-    out: &mut Buffer,
-    waiting: u16,
-    side0: &'a [u16],
-    side1: &'a [u16],
-    mfm: bool,
-    track: u8,
-    sector: u8,
-) -> u16
-    requires { ⌜ (length (now side0) ≤ 6400) × (length (now side1) ≤ 6400) ⌝ }
-{
-    let number = viewer::number(side0, side1, mfm, track, sector);
-    let part = viewer::view(side0, side1, mfm, track, sector);
-    let waiting = output::put_byte(out, waiting, number);
-    let waiting = output::put_word(out, waiting, part.len() as u16);
-    output::put_cells(out, waiting, part, 0, part.len())
-}
-
-// The same of the two rows as they are: side 0 is the current one.
-fn put_view_of_rows<'a>(
-    out: &mut Buffer,
-    waiting: u16,
-    bench: Bench,
-    current: &'a [u16],
-    other: &'a [u16],
-    mfm: bool,
-    track: u8,
-    sector: u8,
-) -> u16
-    requires { ⌜ Fits bench × (Room (now current) × Room (now other)) ⌝ }
-{
-    let size0 = bench.current;
-    let size1 = bench.other;
-    let side0 = &current[..size0];
-    let side1 = &other[..size1];
-    put_view(out, waiting, side0, side1, mfm, track, sector)
-}
-
-fn put_answer<'a>(
-    out: &mut Buffer,
-    waiting: u16,
-    answer: Answer,
-    bench: Bench,
-    current: &'a [u16],
-    other: &'a [u16],
-) -> u16
-    requires { ⌜ Fits bench × (Room (now current) × Room (now other)) ⌝ }
-{
+fn put_answer(out: &mut Buffer, waiting: u16, answer: Answer) -> u16 {
     match answer {
-        Answer::Alone => waiting,
-        Answer::State => put_state(out, waiting, bench),
+        Answer::Nothing => {
+            return waiting;
+        }
         Answer::Number(number) => {
-            let waiting = output::put_byte(out, waiting, number);
-            put_state(out, waiting, bench)
+            return output::put_numbers(out, waiting, 2, &[number as u16]);
         }
         Answer::Byte(number, byte) => {
-            let waiting = output::put_byte(out, waiting, number);
-            let waiting = output::put_byte(out, waiting, byte);
-            put_state(out, waiting, bench)
+            return output::put_numbers(out, waiting, 2, &[number as u16, byte as u16]);
         }
         Answer::Run(number, tally) => {
-            let waiting = output::put_byte(out, waiting, number);
-            let waiting = put_tally(out, waiting, tally);
-            put_state(out, waiting, bench)
-        }
-        Answer::Cells { from, to } => output::put_cells(out, waiting, current, from, to),
-        Answer::View { mfm, track, sector } => {
-            put_view_of_rows(out, waiting, bench, current, other, mfm, track, sector)
+            let behind = output::put_numbers(out, waiting, 2, &[number as u16]);
+            return output::put_numbers(
+                out,
+                behind,
+                4,
+                &[tally.passed, tally.inward, tally.outward],
+            );
         }
     }
 }
 
-// The letter, the answer and a newline.
-pub fn print<'a>(
-    out: &mut Buffer,
-    waiting: u16,
-    letter: u8,
-    answer: Answer,
-    bench: Bench,
-    current: &'a [u16],
-    other: &'a [u16],
-) -> u16
-    requires { ⌜ Fits bench × (Room (now current) × Room (now other)) ⌝ }
-{
-    let waiting = output::put(out, waiting, letter);
-    let waiting = put_answer(out, waiting, answer, bench, current, other);
-    output::put(out, waiting, b'\n')
+pub fn print(out: &mut Buffer, waiting: u16, letter: u8, told: Told) -> u16 {
+    let answer = told.answer;
+    let state = told.state;
+    let first = output::put(out, waiting, letter);
+    let second = put_answer(out, first, answer);
+    let third = put_state(out, second, state);
+    output::put(out, third, b'\n')
 }

@@ -1,84 +1,77 @@
 // The lines that work the controller, each one call of the library.
 ghost use mathlib.Core.Path.{_≡_};
-ghost use Prim.Native.Nat.{_≤_};
-ghost use Rattle.bench.specs.Numbers.{gapOf, pulseByte};
-ghost use Rattle.bench.specs.Benches.{Fits, Room};
-use crate::benches;
-use crate::benches::Answer;
-use crate::benches::Bench;
-use crate::benches::Done;
-use crate::rows;
+ghost use Rattle.bench.specs.Numbers.{linesOf, pulseByte};
+ghost use Rattle.bench.specs.Rows.{Room, Fits};
+use crate::answers::Answer;
+use crate::rows::Cells;
+use crate::rows::Rows;
+use chip::Lines;
 use chip::Pulse;
 use chip::Ring;
+use script::Call;
+use script::Request;
 use wd::Machine;
 
-// What a density's empty track holds.
-fn gap(mfm: bool) -> u16
-    ensures { λ r. ⌜ r ≡ gapOf mfm ⌝ }
-{
-    if mfm { 0x004E } else { 0x00FF }
+// The machine after a call, and what the call gave.
+pub struct Answered {
+    pub machine: Machine,
+    pub answer: Answer,
 }
 
-// Both rows become so many cells of one and the same.
-fn blank_rows(bench: Bench, size: usize, cell: u16, current: &mut [u16], other: &mut [u16]) -> Bench
-    requires { ⌜ (size ≤ 6400) × (Room (now current) × Room (now other)) ⌝ }
-    ensures { λ r. ⌜ Fits r ⌝ }
+// Drive lines by the bits of a number: Ready, protect, track 0, HLT.
+pub fn lines_of(bits: u8) -> Lines
+    ensures { λ r. ⌜ r ≡ linesOf bits ⌝ }
 {
-    rows::fill(current, 0, size, cell);
-    rows::fill(other, 0, size, cell);
-    bench.with_rows(size, size)
-}
-
-// Line P. Where power-on is refused both rows stay as they are.
-pub fn power_on(bench: Bench, mfm: bool, cells: u16, current: &mut [u16], other: &mut [u16]) -> Done
-    requires { ⌜ Fits bench × (Room (now current) × Room (now other)) ⌝ }
-    ensures { λ r. ⌜ Fits (r .bench) ⌝ }
-{
-    let started = Machine::power_on(cells, mfm);
-    let machine = started.machine;
-    let powered = bench.with_machine(machine);
-    if started.number != 0 {
-        return powered.telling(Answer::Number(started.number));
+    Lines {
+        ready: bits % 2 == 1,
+        protect: bits / 2 % 2 == 1,
+        track0: bits / 4 % 2 == 1,
+        hlt: bits / 8 % 2 == 1,
     }
-    let blank = blank_rows(powered, cells as usize, gap(mfm), current, other);
-    blank.telling(Answer::Number(0))
 }
 
-// Line N.
-pub fn set_lines(bench: Bench, bits: u8) -> Done
-    requires { ⌜ Fits bench ⌝ }
-    ensures { λ r. ⌜ Fits (r .bench) ⌝ }
-{
-    let lines = benches::lines_of(bits);
-    bench.with_lines(lines).telling(Answer::State)
+// The drive lines from a line of the script on. Line N sets them.
+pub fn lines_after(lines: Lines, request: Request) -> Lines {
+    match request {
+        Request::SetLines { bits } => lines_of(bits),
+        _ => lines,
+    }
+}
+
+// Before the first power-on: the FM machine of 2,048 cells.
+pub fn start() -> Machine {
+    let started = Machine::power_on(2048, false);
+    started.machine
+}
+
+// Line P.
+fn power_on(mfm: bool, length: u16) -> Answered {
+    let started = Machine::power_on(length, mfm);
+    let machine = started.machine;
+    Answered {
+        machine,
+        answer: Answer::Number(started.number),
+    }
 }
 
 // Line W.
-pub fn load(bench: Bench, register: u8, byte: u8) -> Done
-    requires { ⌜ Fits bench ⌝ }
-    ensures { λ r. ⌜ Fits (r .bench) ⌝ }
-{
-    let machine = bench.machine;
-    let lines = bench.lines;
+fn load(machine: Machine, lines: Lines, register: u8, byte: u8) -> Answered {
     let loaded = machine.load_register(lines, register, byte);
     let next = loaded.machine;
-    bench
-        .with_machine(next)
-        .telling(Answer::Number(loaded.number))
+    Answered {
+        machine: next,
+        answer: Answer::Number(loaded.number),
+    }
 }
 
 // Line R.
-pub fn read(bench: Bench, register: u8) -> Done
-    requires { ⌜ Fits bench ⌝ }
-    ensures { λ r. ⌜ Fits (r .bench) ⌝ }
-{
-    let machine = bench.machine;
-    let lines = bench.lines;
+fn read(machine: Machine, lines: Lines, register: u8) -> Answered {
     let read = machine.read_register(lines, register);
     let next = read.machine;
-    bench
-        .with_machine(next)
-        .telling(Answer::Byte(read.number, read.byte))
+    Answered {
+        machine: next,
+        answer: Answer::Byte(read.number, read.byte),
+    }
 }
 
 // 00 for no step pulse, 01 for one in, 02 for one out.
@@ -93,65 +86,88 @@ fn pulse_byte(pulse: Pulse) -> u8
 }
 
 // Line B.
-pub fn byte_time(bench: Bench, current: &mut [u16]) -> Done
-    requires { ⌜ Fits bench × Room (now current) ⌝ }
-    ensures { λ r. ⌜ Fits (r .bench) ⌝ }
-{
-    let machine = bench.machine;
-    let lines = bench.lines;
-    let size = bench.current;
-    let passed = machine.byte_time(lines, &mut current[..size]);
+fn byte_time(machine: Machine, lines: Lines, row: &mut [u16]) -> Answered {
+    let passed = machine.byte_time(lines, row);
     let next = passed.machine;
     let pulse = passed.pulse;
-    let byte = pulse_byte(pulse);
-    bench
-        .with_machine(next)
-        .telling(Answer::Byte(passed.number, byte))
+    Answered {
+        machine: next,
+        answer: Answer::Byte(passed.number, pulse_byte(pulse)),
+    }
 }
 
 // Line G.
-pub fn run(bench: Bench, limit: u16, current: &mut [u16]) -> Done
-    requires { ⌜ Fits bench × Room (now current) ⌝ }
-    ensures { λ r. ⌜ Fits (r .bench) ⌝ }
-{
-    let machine = bench.machine;
-    let lines = bench.lines;
-    let size = bench.current;
-    let ran = machine.run(lines, limit, &mut current[..size]);
+fn run(machine: Machine, lines: Lines, limit: u16, row: &mut [u16]) -> Answered {
+    let ran = machine.run(lines, limit, row);
     let next = ran.machine;
     let tally = ran.tally;
-    bench
-        .with_machine(next)
-        .telling(Answer::Run(ran.number, tally))
+    Answered {
+        machine: next,
+        answer: Answer::Run(ran.number, tally),
+    }
 }
 
-fn set_ring(bench: Bench, ring: Ring) -> Done
-    requires { ⌜ Fits bench ⌝ }
-    ensures { λ r. ⌜ Fits (r .bench) ⌝ }
-{
-    let mut machine = bench.machine;
-    machine.ring = ring;
-    bench.with_machine(machine).telling(Answer::State)
+// Lines X and Y.
+fn set_ring(machine: Machine, length: u16, position: u16) -> Answered {
+    let ring = Ring { length, position };
+    let mut next = machine;
+    next.ring = ring;
+    Answered {
+        machine: next,
+        answer: Answer::Nothing,
+    }
 }
 
-// Line X.
-pub fn set_position(bench: Bench, position: u16) -> Done
-    requires { ⌜ Fits bench ⌝ }
-    ensures { λ r. ⌜ Fits (r .bench) ⌝ }
+fn carry_out(machine: Machine, lines: Lines, call: Call, rows: Rows, cells: &mut [u16]) -> Answered
+    requires { ⌜ Fits rows × Room (now cells) ⌝ }
 {
-    let machine = bench.machine;
-    let mut ring = machine.ring;
-    ring.position = position;
-    set_ring(bench, ring)
+    let ring = machine.ring;
+    let at = rows.at;
+    let end = at + rows.current;
+    match call {
+        Call::Load { register, byte } => {
+            return load(machine, lines, register, byte);
+        }
+        Call::Read { register } => {
+            return read(machine, lines, register);
+        }
+        Call::ByteTime => {
+            return byte_time(machine, lines, &mut cells[at..end]);
+        }
+        Call::Run { limit } => {
+            return run(machine, lines, limit, &mut cells[at..end]);
+        }
+        Call::SetPosition { position } => {
+            return set_ring(machine, ring.length, position);
+        }
+        Call::SetLength { length } => {
+            return set_ring(machine, length, ring.position);
+        }
+    }
 }
 
-// Line Y.
-pub fn set_length(bench: Bench, length: u16) -> Done
-    requires { ⌜ Fits bench ⌝ }
-    ensures { λ r. ⌜ Fits (r .bench) ⌝ }
+// What a line asks of the controller, over the current row.
+pub fn answer(
+    machine: Machine,
+    lines: Lines,
+    request: Request,
+    rows: Rows,
+    cells: &mut Cells,
+) -> Answered
+    requires { ⌜ Fits rows ⌝ }
 {
-    let machine = bench.machine;
-    let mut ring = machine.ring;
-    ring.length = length;
-    set_ring(bench, ring)
+    match request {
+        Request::PowerOn { mfm, length } => {
+            return power_on(mfm, length);
+        }
+        Request::Controller(call) => {
+            return carry_out(machine, lines, call, rows, cells);
+        }
+        _ => {
+            return Answered {
+                machine,
+                answer: Answer::Nothing,
+            };
+        }
+    }
 }

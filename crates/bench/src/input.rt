@@ -1,18 +1,36 @@
-// Standard input, byte by byte, over a buffer.
+// The lines of standard input, over a buffer.
+ghost use Prim.Native.Nat.{_≤_};
 use crate::output::Buffer;
 use libc::STDIN_FILENO;
+use script::Line;
+use script::Reader;
 
-// Where in the buffer the next byte stands, and how many from there on are still to be taken.
+// Where in the buffer the next byte stands, how many from there on are still to be taken, and whether the input is over.
 pub struct Source {
     pub at: u16,
     pub left: usize,
+    pub over: bool,
 }
 
 // A byte of the input; where the input is over, the newline that ends its last line.
 pub struct Taken {
     pub byte: u8,
-    pub over: bool,
     pub source: Source,
+}
+
+pub struct Read {
+    pub line: Line,
+    pub source: Source,
+}
+
+impl Source {
+    pub fn start() -> Source {
+        Source {
+            at: 0,
+            left: 0,
+            over: false,
+        }
+    }
 }
 
 // Reads once more where nothing is left.
@@ -21,29 +39,57 @@ fn filled(source: Source, buffer: &mut Buffer) -> Source {
         return source;
     }
     let got = libc::read(STDIN_FILENO, buffer);
+    let left = io::count(got, buffer);
     Source {
         at: 0,
-        left: io::count(got, buffer),
+        left,
+        over: left == 0,
     }
 }
 
 // Takes the next byte.
-pub fn take(source: Source, buffer: &mut Buffer) -> Taken {
+fn take(source: Source, buffer: &mut Buffer) -> Taken {
     let ready = filled(source, buffer);
     let at = ready.at;
-    if ready.left == 0 {
+    let left = ready.left;
+    if left == 0 {
         return Taken {
             byte: b'\n',
-            over: true,
             source: ready,
         };
     }
     Taken {
         byte: buffer[at as usize],
-        over: false,
         source: Source {
             at: std::num::wrapping_add_u16(at, 1),
-            left: ready.left - 1,
+            left: left - 1,
+            over: false,
         },
+    }
+}
+
+// Reads a line, to its newline. A proved loop has to end: so the bytes are counted down, from a number that no line has.
+pub fn next_line(source: Source, buffer: &mut Buffer) -> Read
+    ensures { λ r. ⌜ r .line .count ≤ 65 ⌝ }
+{
+    let mut reader = Reader::start();
+    let mut rest = source;
+    let mut left = u64::MAX;
+    while 0 < left {
+        let taken = take(rest, buffer);
+        let byte = taken.byte;
+        rest = taken.source;
+        if byte == b'\n' {
+            return Read {
+                line: reader.ended(),
+                source: rest,
+            };
+        }
+        reader = reader.fed(byte);
+        left -= 1;
+    }
+    Read {
+        line: reader.ended(),
+        source: rest,
     }
 }

@@ -1,46 +1,56 @@
 // Works one controller and two rows of cells from a script on standard input, and prints a line for each line carried out.
-ghost use Rattle.bench.specs.Benches.{Room};
 
 mod answers;
-mod benches;
 mod calls;
-mod cells;
 mod input;
 mod output;
-mod requests;
 mod rows;
 mod sessions;
+mod tasks;
+mod views;
 
+use input::Source;
 use output::Buffer;
+use rows::Cells;
 
 // Works the whole script, and hands back how many bytes of output wait. A proved loop has to end, and nothing says that
-// the input does: so the bytes are counted down, from a number that no input uses up.
-fn work(first: &mut [u16], second: &mut [u16], buffer: &mut Buffer, out: &mut Buffer) -> u16
-    requires { ⌜ Room (now first) × Room (now second) ⌝ }
-{
+// the input does: so it ends at a line's number that no script reaches.
+fn work(cells: &mut Cells, buffer: &mut Buffer, out: &mut Buffer) -> u16 {
+    let mut machine = calls::start();
+    let mut lines = calls::lines_of(0);
     let mut session = sessions::start();
-    let mut left = u64::MAX;
-    while 0 < left {
-        if session.over {
+    let mut source = Source::start();
+    let mut number = 0u64;
+    while number < u64::MAX {
+        number += 1;
+        let read = input::next_line(source, buffer);
+        let line = read.line;
+        source = read.source;
+        let request = script::request_of(line);
+        lines = calls::lines_after(lines, request);
+        let answered = calls::answer(machine, lines, request, session.rows, cells);
+        machine = answered.machine;
+        let answer = answered.answer;
+        let told = answers::with_state(machine, lines, answer);
+        session = sessions::end_line(session, line, request, told, cells, out);
+        if session.failed {
+            return output::put_error(out, session.waiting, number);
+        }
+        if source.over {
             return session.waiting;
         }
-        session = sessions::step(session, first, second, buffer, out);
-        left -= 1;
     }
     session.waiting
 }
 
-fn run(first: &mut [u16], second: &mut [u16], buffer: &mut Buffer, out: &mut Buffer)
-    requires { ⌜ Room (now first) × Room (now second) ⌝ }
-{
-    let waiting = work(first, second, buffer, out);
+fn run(cells: &mut Cells, buffer: &mut Buffer, out: &mut Buffer) {
+    let waiting = work(cells, buffer, out);
     output::flush(out, waiting);
 }
 
 fn main() {
-    let mut first = [0x00FFu16; 6400];
-    let mut second = [0x00FFu16; 6400];
+    let mut cells = [0x00FFu16; 12800];
     let mut buffer = io::large_buffer();
     let mut out = io::large_buffer();
-    run(&mut first, &mut second, &mut buffer, &mut out);
+    run(&mut cells, &mut buffer, &mut out);
 }

@@ -1,5 +1,6 @@
 // Standard output, over a buffer that goes out whenever it is full. Every function takes how many bytes wait in it, hands
 // back how many wait then, and never loses one: a u16 counts up to the buffer's last place.
+ghost use Prim.Native.Nat.{_≤_};
 use libc::STDOUT_FILENO;
 
 // What input and output go through.
@@ -30,38 +31,26 @@ pub fn put_all(out: &mut Buffer, waiting: u16, piece: &[u8]) -> u16 {
     count
 }
 
-// A space and two digits.
-pub fn put_byte(out: &mut Buffer, waiting: u16, byte: u8) -> u16 {
-    let hex = text::hex(byte as u16);
-    put_all(out, waiting, &[b' ', hex[2], hex[3]])
+// A space and the last so many hexadecimal digits of a number.
+fn put_number(out: &mut Buffer, waiting: u16, digits: usize, number: u16) -> u16
+    requires { ⌜ digits ≤ 4 ⌝ }
+{
+    let hex = text::hex(number);
+    let behind = put(out, waiting, b' ');
+    put_all(out, behind, &hex[4 - digits..])
 }
 
-// A space and four digits.
-pub fn put_word(out: &mut Buffer, waiting: u16, word: u16) -> u16 {
-    let hex = text::hex(word);
-    put_all(out, waiting, &[b' ', hex[0], hex[1], hex[2], hex[3]])
-}
-
-// The cells of a row from one place up to another, as far as the row goes.
-pub fn put_cells(out: &mut Buffer, waiting: u16, row: &[u16], from: usize, to: usize) -> u16 {
+// Numbers of so many digits each.
+pub fn put_numbers(out: &mut Buffer, waiting: u16, digits: usize, numbers: &[u16]) -> u16
+    requires { ⌜ digits ≤ 4 ⌝ }
+{
     let mut count = waiting;
-    let mut i = from;
-    while i < row.len() {
-        if to <= i {
-            return count;
-        }
-        count = put_word(out, count, row[i]);
+    let mut i = 0;
+    while i < numbers.len() {
+        count = put_number(out, count, digits, numbers[i]);
         i += 1;
     }
     count
-}
-
-// A space, and 1 for on or 0 for off.
-pub fn put_flag(out: &mut Buffer, waiting: u16, on: bool) -> u16 {
-    if on {
-        return put_all(out, waiting, b" 1");
-    }
-    put_all(out, waiting, b" 0")
 }
 
 // The number of a line that cannot be carried out, in decimal.

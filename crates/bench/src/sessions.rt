@@ -1,154 +1,133 @@
-// A session: the script read byte by byte, and what each line comes to.
-ghost use Rattle.bench.specs.Benches.{Fits, Room};
-ghost use Rattle.bench.specs.Sessions.{Ready};
+// A session: the rows, and what each line of the script comes to.
+ghost use Prim.Native.Nat.{_≤_};
+ghost use Rattle.bench.specs.Rows.{Fits};
 use crate::answers;
-use crate::benches::Answer;
-use crate::benches::Bench;
-use crate::benches::Outcome;
-use crate::input;
-use crate::input::Source;
-use crate::output;
+use crate::answers::Told;
 use crate::output::Buffer;
-use crate::requests;
-use script::Reader;
+use crate::rows;
+use crate::rows::Cells;
+use crate::rows::Rows;
+use crate::tasks;
+use crate::views;
+use script::Line;
+use script::Request;
+use script::Task;
 
-// How far the script has come: the bench, the input and the line that is being read, the line's number, how many bytes of
-// output wait, and whether the run is over.
+// The rows, how many bytes of output wait, and whether the last line could not be carried out.
 pub struct Session {
-    pub bench: Bench,
-    pub source: Source,
-    pub reader: Reader,
-    pub number: u64,
+    pub rows: Rows,
     pub waiting: u16,
-    pub over: bool,
+    pub failed: bool,
 }
 
-// Before the first byte.
+// Before the first line: rows of 2,048 cells.
 pub fn start() -> Session
-    ensures { λ r. ⌜ Ready r ⌝ }
+    ensures { λ r. ⌜ Fits (r .rows) ⌝ }
 {
     Session {
-        bench: Bench::start(),
-        source: Source { at: 0, left: 0 },
-        reader: Reader::start(),
-        number: 1,
+        rows: Rows {
+            at: 0,
+            current: 2048,
+            other: 2048,
+        },
         waiting: 0,
-        over: false,
+        failed: false,
     }
 }
 
-// The next line begins.
-fn go_on(session: Session, bench: Bench, waiting: u16) -> Session
-    requires { ⌜ Fits bench ⌝ }
-    ensures { λ r. ⌜ Ready r ⌝ }
+// The session goes on behind a line that printed.
+fn go_on(rows: Rows, waiting: u16) -> Session
+    requires { ⌜ Fits rows ⌝ }
+    ensures { λ r. ⌜ Fits (r .rows) ⌝ }
 {
-    let source = session.source;
     Session {
-        bench,
-        source,
-        reader: Reader::start(),
-        number: std::num::wrapping_add_u64(session.number, 1),
+        rows,
         waiting,
-        over: false,
+        failed: false,
     }
 }
 
-// A line that cannot be carried out ends the run.
-fn fail(session: Session, out: &mut Buffer) -> Session
-    requires { ⌜ Ready session ⌝ }
-    ensures { λ r. ⌜ Ready r ⌝ }
+fn fail(session: Session) -> Session
+    requires { ⌜ Fits (session .rows) ⌝ }
+    ensures { λ r. ⌜ Fits (r .rows) ⌝ }
 {
-    let waiting = output::put_error(out, session.waiting, session.number);
     let mut next = session;
-    next.waiting = waiting;
-    next.over = true;
+    next.failed = true;
     next
 }
 
-// A line that was carried out prints what it tells.
-fn tell<'a>(
+// A line that works the rows.
+fn work_rows(
     session: Session,
-    bench: Bench,
-    letter: u8,
-    answer: Answer,
-    current: &'a [u16],
-    other: &'a [u16],
+    line: Line,
+    task: Task,
+    cells: &mut Cells,
     out: &mut Buffer,
 ) -> Session
-    requires { ⌜ Fits bench × (Room (now current) × Room (now other)) ⌝ }
-    ensures { λ r. ⌜ Ready r ⌝ }
+    requires { ⌜ Fits (session .rows) × (line .count ≤ 65) ⌝ }
+    ensures { λ r. ⌜ Fits (r .rows) ⌝ }
 {
-    let waiting = answers::print(out, session.waiting, letter, answer, bench, current, other);
-    go_on(session, bench, waiting)
+    let rows = session.rows;
+    let worked = tasks::carry_out(rows, line, task, cells);
+    if worked.failed {
+        return fail(session);
+    }
+    let after = worked.rows;
+    go_on(
+        after,
+        tasks::print(out, session.waiting, line.letter, worked, cells),
+    )
 }
 
-// A line ends: what it asks for is carried out.
-fn end_line(session: Session, current: &mut [u16], other: &mut [u16], out: &mut Buffer) -> Session
-    requires { ⌜ Ready session × (Room (now current) × Room (now other)) ⌝ }
-    ensures { λ r. ⌜ Ready r ⌝ }
+// The rows from a line of the script on, as far as power-on goes: line P blanks both.
+fn powered(rows: Rows, request: Request, cells: &mut Cells) -> Rows
+    requires { ⌜ Fits rows ⌝ }
+    ensures { λ r. ⌜ Fits r ⌝ }
 {
-    let bench = session.bench;
-    let reader = session.reader;
-    let line = reader.ended();
-    let done = requests::carry_out(bench, line, current, other);
-    let next = done.bench;
-    let outcome = done.outcome;
-    match outcome {
-        Outcome::Nothing => go_on(session, next, session.waiting),
-        Outcome::Told(answer) => tell(session, next, line.letter, answer, current, other, out),
-        Outcome::Failed => fail(session, out),
+    match request {
+        Request::PowerOn { mfm, length } => {
+            return rows::blank(rows, length as usize, mfm, cells);
+        }
+        _ => {
+            return rows;
+        }
     }
 }
 
-// A line ends, with the two rows as they lie: the current row is the second where they have changed places.
-fn end_line_on(session: Session, first: &mut [u16], second: &mut [u16], out: &mut Buffer) -> Session
-    requires { ⌜ Ready session × (Room (now first) × Room (now second)) ⌝ }
-    ensures { λ r. ⌜ Ready r ⌝ }
-{
-    let bench = session.bench;
-    if bench.swapped {
-        return end_line(session, second, first, out);
-    }
-    end_line(session, first, second, out)
-}
-
-// One byte more of a line, or the newline that ends it.
-fn feed(
+// A line ends, and the controller has told what it asked of it. What it asks else is carried out, and it prints.
+pub fn end_line(
     session: Session,
-    byte: u8,
-    first: &mut [u16],
-    second: &mut [u16],
+    line: Line,
+    request: Request,
+    told: Told,
+    cells: &mut Cells,
     out: &mut Buffer,
 ) -> Session
-    requires { ⌜ Ready session × (Room (now first) × Room (now second)) ⌝ }
-    ensures { λ r. ⌜ Ready r ⌝ }
+    requires { ⌜ Fits (session .rows) × (line .count ≤ 65) ⌝ }
+    ensures { λ r. ⌜ Fits (r .rows) ⌝ }
 {
-    if byte == b'\n' {
-        return end_line_on(session, first, second, out);
+    let rows = powered(session.rows, request, cells);
+    match request {
+        Request::Nothing => {
+            return session;
+        }
+        Request::Rows(task) => {
+            return work_rows(session, line, task, cells, out);
+        }
+        Request::View { mfm, track, sector } => {
+            return go_on(
+                rows,
+                views::print(out, session.waiting, rows, cells, mfm, track, sector),
+            );
+        }
+        Request::Bad => {
+            return fail(session);
+        }
+        _ => {
+            return go_on(
+                rows,
+                answers::print(out, session.waiting, line.letter, told),
+            );
+        }
     }
-    let reader = session.reader;
-    let fed = reader.fed(byte);
-    let mut next = session;
-    next.reader = fed;
-    next
-}
-
-// The script goes on by one byte.
-pub fn step(
-    session: Session,
-    first: &mut [u16],
-    second: &mut [u16],
-    buffer: &mut Buffer,
-    out: &mut Buffer,
-) -> Session
-    requires { ⌜ Ready session × (Room (now first) × Room (now second)) ⌝ }
-    ensures { λ r. ⌜ Ready r ⌝ }
-{
-    let source = session.source;
-    let taken = input::take(source, buffer);
-    let rest = taken.source;
-    let mut next = feed(session, taken.byte, first, second, out);
-    next.source = rest;
-    next.over = next.over | taken.over;
-    next
 }

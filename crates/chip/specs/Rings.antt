@@ -14,7 +14,7 @@ use Rattle.chip.specs.declared.Lines.{Lines}
 unfoldable pub ringWithin : Ring → Bool
 ringWithin r = lengthWithin (r .length) && ltb (r .position) (r .length)
 
--- "then the position goes up by one, and from L - 1 to 0"
+-- "then the position goes up by one, and from L - 1 to 0"; one that is not below L, which 2 refuses, stays
 unfoldable pub nextOf : Ring → Ring
 nextOf r =
     cond (ltb (r .position) (r .length))

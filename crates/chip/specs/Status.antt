@@ -8,8 +8,8 @@ use Rattle.chip.specs.declared.Status.{Status}
 unfoldable pub bitFor : Bool → ℕ → ℕ
 bitFor on mask = cond on mask 0
 
--- "5 head loaded and HLT on (Type I) ..; 2 track 0 (Type I) ..; 1 index (Type I)". "Bits 7 and, for Type I, 6, 5, 2 follow the
--- lines at the read; index is on if the last byte time was a pulse."
+-- "5 head loaded and HLT on (Type I) ..; 2 track 0 (Type I) ..; 1 index (Type I)". "Bits 7 and, for Type I, 6, 5, 2 follow
+-- the lines at the read; index is on if the last byte time was a pulse."
 unfoldable pub type1Of : Bool → Bool → Lines → ℕ
 type1Of engaged index l =
     (bitFor (l .protect) 0x40 + bitFor engaged 0x20) + (bitFor (l .track0) 0x04 + bitFor index 0x02)

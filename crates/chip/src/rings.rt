@@ -54,5 +54,9 @@ pub fn look(mfm: bool, ring: Ring, regs: Regs, drq: bool, lines: Lines, cell: u1
 pub fn told(conditions: Conditions, was: bool, ready: bool, index: bool) -> bool
     ensures { λ r. ⌜ r ≡ toldOf conditions was ready index ⌝ }
 {
-    (conditions.on & ready & !was) | (conditions.off & !ready & was) | (conditions.index & index)
+    if ready {
+        (conditions.on & !was) | (conditions.index & index)
+    } else {
+        (conditions.off & was) | (conditions.index & index)
+    }
 }

@@ -10,11 +10,11 @@ use native.Mathlib.Omega.{arith}
 use lib.Dec.{T}
 use mir.Val.{hasKey}
 use types.Run.{OneOf, hit}
-use Rattle.common.proofs.Tabulate.{from}
 
 -- the n numbers from `first` on
 abbrev pub count : ℕ → ℕ → List ℕ
-count first n = from (λ (k : ℕ). k) first n
+count first zero = []
+count first (suc n) = first ∷ count (suc first) n
 
 -- f gives one answer at each of the numbers
 abbrev pub Gives : {A : Type 0} → (ℕ → A) → A → List ℕ → Type 0

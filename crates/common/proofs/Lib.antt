@@ -1,4 +1,3 @@
 -- Lemmas that the proofs of every crate share.
 pub mod Cases
-pub mod Tabulate
 pub mod Arms

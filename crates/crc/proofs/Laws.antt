@@ -13,7 +13,7 @@ bit-below : (c : ℕ) → c < 65536 → crcBit c < 65536
 unfolding crcBit
 bit-below c h = xor-lt 16 (c * 2 % 65536) (c / 32768 * polynomial) (omega arith) (omega arith)
 
-bits-below : (n c : ℕ) → c < 65536 → crcBits n c < 65536
+pub bits-below : (n c : ℕ) → c < 65536 → crcBits n c < 65536
 unfolding crcBits
 bits-below zero c h = h
 bits-below (suc n) c h = bits-below n (crcBit c) (bit-below c h)

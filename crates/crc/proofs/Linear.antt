@@ -7,6 +7,7 @@ use native.Mathlib.Omega.{arith}
 use lib.Bits.{bitXor, xor-zero-r, xor-shr, xor-mod, xor-block, xor-shifted}
 use lib.Pow.{split, pow-pos}
 use Rattle.crc.specs.Crc.{crcBit, crcBits, crcByte, polynomial}
+use Rattle.crc.specs.Table.{word}
 use Rattle.crc.proofs.Xor.{xor-swap, xor-double}
 
 -- y has no bit at the top, so it only goes up by one place
@@ -40,10 +41,6 @@ enters c b =
     ∙ xor-block 8 (c / 256) b (c % 256) 0 (mod-lt c (omega arith)) (omega arith)
     ∙ ap (λ (z : ℕ). bitXor (c / 256) b * 256 + z) (xor-zero-r (c % 256))
     ∙ sym (xor-shifted (bitXor (c / 256) b) 8 (c % 256) (mod-lt c (omega arith)))
-
--- the word of a table for the byte i: what i in the high half comes to
-abbrev pub word : ℕ → ℕ
-word i = crcBits 8 (i * 256)
 
 pub by-word : (c b : ℕ) → crcByte c b ≡ bitXor (word (bitXor (c / 256) b)) (c % 256 * 256)
 unfolding crcByte

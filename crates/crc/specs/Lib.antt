@@ -1,2 +1,3 @@
 -- The definitions that the contracts of `crc` cite.
 pub mod Crc
+pub mod Table

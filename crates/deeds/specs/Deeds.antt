@@ -14,20 +14,29 @@ use Rattle.chip.specs.declared.Pulse.the-variants as pulse
 unfoldable pub raisedSr : ℕ → Bool → ℕ
 raisedSr sr follows = cond follows ((sr + 1) % 256) sr
 
+abbrev pub withTr : Regs → ℕ → Regs
+withTr r tr = record { tr = tr; sr = r .sr; dr = r .dr }
+
+abbrev pub withSr : Regs → ℕ → Regs
+withSr r sr = record { tr = r .tr; sr = sr; dr = r .dr }
+
+abbrev pub withDr : Regs → ℕ → Regs
+withDr r dr = record { tr = r .tr; sr = r .sr; dr = dr }
+
 -- "goes to DR", "track to SR", "TR moves", "sets TR 0"
 unfoldable pub regsAfter : Regs → Deed → Regs
 regsAfter r Nothing = r
-regsAfter r (Deliver b) = record { tr = r .tr; sr = r .sr; dr = b }
-regsAfter r (Named b track bad) = record { tr = r .tr; sr = track; dr = b }
+regsAfter r (Deliver b) = withDr r b
+regsAfter r (Named b track bad) = withSr (withDr r b) track
 regsAfter r (Matched bad) = r
 regsAfter r NotFound = r
-regsAfter r (Record deleted bad follows) = record { tr = r .tr; sr = raisedSr (r .sr) follows; dr = r .dr }
-regsAfter r (Written follows) = record { tr = r .tr; sr = raisedSr (r .sr) follows; dr = r .dr }
+regsAfter r (Record deleted bad follows) = withSr r (raisedSr (r .sr) follows)
+regsAfter r (Written follows) = withSr r (raisedSr (r .sr) follows)
 regsAfter r (Ask on) = r
 regsAfter r Late = r
 regsAfter r (Take on) = r
-regsAfter r (Step inward track) = record { tr = track; sr = r .sr; dr = r .dr }
-regsAfter r (Halt rule load) = cond rule (record { tr = 0; sr = r .sr; dr = r .dr }) r
+regsAfter r (Step inward track) = withTr r track
+regsAfter r (Halt rule load) = cond rule (withTr r 0) r
 
 -- "sets DRQ", "then DRQ is on, but off after the last"
 unfoldable pub drqAfter : Bool → Deed → Bool
@@ -77,6 +86,7 @@ withMissing f =
       lost = f .lost;
     }
 
+-- "bit 3 if bad, bit 5 on if F8, else off": bit 3 stays on behind a bad record until a good match (decision 21)
 abbrev pub withRecord : Flags → Bool → Bool → Flags
 withRecord f deleted bad =
     record {
@@ -88,7 +98,7 @@ withRecord f deleted bad =
       lost = f .lost;
     }
 
--- "if DRQ was still on, Lost Data"; "bit 3 if bad"; "sets bit 3 .. a good match clears it"; "bit 4"; "bit 5 on if F8, else off"
+-- "if DRQ was still on, Lost Data"; "bit 3 if bad"; "sets bit 3 .. a good match clears it"; "bit 4"
 unfoldable pub flagsAfter : Flags → Bool → Deed → Flags
 flagsAfter f drq Nothing = f
 flagsAfter f drq (Deliver b) = withLost f (f .lost || drq)

@@ -1,6 +1,6 @@
 // What a byte time's deed does to registers, wires, flags and head.
 ghost use mathlib.Core.Path.{_≡_};
-ghost use Rattle.deeds.specs.Deeds.{raisedSr, regsAfter, drqAfter, withLost, withCrc, withMissing, withRecord, flagsAfter, headAfter, pulseOf};
+ghost use Rattle.deeds.specs.Deeds.{raisedSr, withTr, withSr, withDr, regsAfter, drqAfter, withLost, withCrc, withMissing, withRecord, flagsAfter, headAfter, pulseOf};
 use activity::Deed;
 use chip::Flags;
 use chip::Head;
@@ -18,46 +18,40 @@ fn raised(sr: u8, follows: bool) -> u8
     }
 }
 
+fn with_tr(regs: Regs, tr: u8) -> Regs
+    ensures { λ r. ⌜ r ≡ withTr regs tr ⌝ }
+{
+    let mut after = regs;
+    after.tr = tr;
+    after
+}
+
+fn with_sr(regs: Regs, sr: u8) -> Regs
+    ensures { λ r. ⌜ r ≡ withSr regs sr ⌝ }
+{
+    let mut after = regs;
+    after.sr = sr;
+    after
+}
+
+fn with_dr(regs: Regs, dr: u8) -> Regs
+    ensures { λ r. ⌜ r ≡ withDr regs dr ⌝ }
+{
+    let mut after = regs;
+    after.dr = dr;
+    after
+}
+
 pub fn regs_after(regs: Regs, deed: Deed) -> Regs
     ensures { λ r. ⌜ r ≡ regsAfter regs deed ⌝ }
 {
     match deed {
-        Deed::Deliver(byte) => Regs {
-            tr: regs.tr,
-            sr: regs.sr,
-            dr: byte,
-        },
-        Deed::Named(byte, track, _) => Regs {
-            tr: regs.tr,
-            sr: track,
-            dr: byte,
-        },
-        Deed::Record(_, _, follows) => Regs {
-            tr: regs.tr,
-            sr: raised(regs.sr, follows),
-            dr: regs.dr,
-        },
-        Deed::Written(follows) => Regs {
-            tr: regs.tr,
-            sr: raised(regs.sr, follows),
-            dr: regs.dr,
-        },
-        Deed::Step(_, track) => Regs {
-            tr: track,
-            sr: regs.sr,
-            dr: regs.dr,
-        },
-        Deed::Halt(rule, _) => {
-            if rule {
-                Regs {
-                    tr: 0,
-                    sr: regs.sr,
-                    dr: regs.dr,
-                }
-            } else {
-                regs
-            }
-        }
+        Deed::Deliver(byte) => with_dr(regs, byte),
+        Deed::Named(byte, track, _) => with_sr(with_dr(regs, byte), track),
+        Deed::Record(_, _, follows) => with_sr(regs, raised(regs.sr, follows)),
+        Deed::Written(follows) => with_sr(regs, raised(regs.sr, follows)),
+        Deed::Step(_, track) => with_tr(regs, track),
+        Deed::Halt(rule, _) => { if rule { with_tr(regs, 0) } else { regs } }
         _ => regs,
     }
 }

@@ -5,13 +5,12 @@ use lib.Dec.{eqb}
 use Rattle.crc.specs.Crc.{preset, crcByte}
 use Rattle.scan.specs.Marks.{sync}
 use Rattle.order.specs.Commands.{within}
-use Rattle.activity.specs.Acts.{write}
+use Rattle.activity.specs.Acts.{write, takenOf}
 use Rattle.activity.specs.declared.Seen.{Seen}
 use Rattle.activity.specs.declared.Act.{Act}
 use Rattle.activity.specs.declared.Activity.{Activity}
 use Rattle.activity.specs.declared.Activity.the-variants.{Idle, Format, FormatCrc}
 use Rattle.activity.specs.declared.Deed.the-variants.{Ask, Take}
-use Rattle.writing.specs.Writing.{takenOf}
 
 -- "cell L - 1 ends it"
 unfoldable pub untilLast : Bool → Activity → Activity
@@ -28,7 +27,7 @@ laidCell mfm b =
     (cond (eqb b 0xF5) sync (cond (eqb b 0xF6) 0x1C2 b))
     (cond (presets b || eqb b 0xFC) (b + 256) b)
 
--- "register CDB4 after it", "CRC starts at FFFF and takes every byte.": of F6 the C2 that is written
+-- "register CDB4 after it", "CRC starts at FFFF and takes every byte.": of F6 the C2 that is written (decision 31)
 unfoldable pub laidCrc : Bool → ℕ → ℕ → ℕ
 laidCrc mfm crc b =
     cond mfm

@@ -5,7 +5,7 @@ use activity::Act;
 use activity::Activity;
 use activity::Deed;
 use activity::Seen;
-use writing::taken;
+use activity::taken;
 
 fn until_last(last: bool, next: Activity) -> Activity
     ensures { λ r. ⌜ r ≡ untilLast last next ⌝ }
@@ -21,7 +21,7 @@ fn presets_crc(byte: u8) -> bool
 }
 
 // The cell that a byte is laid as.
-fn laid_cell(mfm: bool, byte: u8) -> u16
+pub fn laid_cell(mfm: bool, byte: u8) -> u16
     ensures { λ r. ⌜ r ≡ laidCell mfm byte ⌝ }
 {
     if mfm {
@@ -40,7 +40,7 @@ fn laid_cell(mfm: bool, byte: u8) -> u16
 }
 
 // The register behind it.
-fn laid_crc(mfm: bool, crc: u16, byte: u8) -> u16
+pub fn laid_crc(mfm: bool, crc: u16, byte: u8) -> u16
     ensures { λ r. ⌜ r ≡ laidCrc mfm crc byte ⌝ }
 {
     if mfm {

@@ -15,7 +15,7 @@ use Rattle.activity.specs.declared.Act.{Act}
 use Rattle.activity.specs.declared.Activity.{Activity}
 use Rattle.activity.specs.declared.Activity.the-variants.{Idle, Window, Data, Hunt, Address, TrackRead}
 use Rattle.activity.specs.declared.Deed.the-variants.{Nothing, Deliver, Named, NotFound, Record}
-use Rattle.search.specs.Search.{pulsesOf, afresh}
+use Rattle.search.specs.Search.{pulsesOf, againOf}
 
 -- ---- Read Sector
 
@@ -31,10 +31,6 @@ metOf s left passed (Met mark) = pass s (Data left (markCrc (s .mfm) (markByte m
 -- a cell behind the ID, so many of the window having passed
 unfoldable pub awaitedOf : Seen → ℕ → ℕ → ℕ → Act
 awaitedOf s left passed run = metOf s left passed (soughtOf (s .mfm) (s .cell) run)
-
--- "With m .. the search starts afresh instead; a bad data CRC does not stop it"
-unfoldable pub againOf : Bool → Activity
-againOf multiple = cond multiple (afresh 0) Idle
 
 -- "Each data byte, flags ignored, goes to DR and sets DRQ". "At the second CRC cell: bit 3 if bad, bit 5 on if F8, else off,
 -- Busy off, INTRQ. With m, SR goes up by one": left counts the two CRC cells too.

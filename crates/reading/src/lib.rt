@@ -1,13 +1,13 @@
 // Read Sector behind its ID, Read Address and Read Track.
 ghost use mathlib.Core.Path.{_≡_};
-ghost use Rattle.reading.specs.Reading.{missedOf, metOf, awaitedOf, againOf, readOf, addressBegun, huntedOf, huntOf, trackIn, addressOf, trackReadOf};
+ghost use Rattle.reading.specs.Reading.{missedOf, metOf, awaitedOf, readOf, addressBegun, huntedOf, huntOf, trackIn, addressOf, trackReadOf};
 use activity::Act;
 use activity::Activity;
 use activity::Deed;
 use activity::Seen;
 use scan::Passed;
-use scan::Scan;
 use scan::Sought;
+use search::again;
 use search::pulses;
 
 fn missed(s: Seen, left: u16, passed: u8, run: u8) -> Act
@@ -49,17 +49,6 @@ pub fn window(s: Seen, left: u16, passed: u8, run: u8) -> Act
     ensures { λ r. ⌜ r ≡ awaitedOf s left passed run ⌝ }
 {
     met(s, left, passed, scan::seek_data(s.mfm, s.cell, run))
-}
-
-// Behind a record: the next search, or the end.
-pub fn again(multiple: bool) -> Activity
-    ensures { λ r. ⌜ r ≡ againOf multiple ⌝ }
-{
-    if multiple {
-        Activity::Search(0, Scan::Gap(0))
-    } else {
-        Activity::Idle
-    }
 }
 
 // A cell of a data field.

@@ -5,7 +5,9 @@ use lib.Dec.{ltb, eqb}
 use lib.ListN.{getD}
 use Rattle.script.specs.declared.lines.Line.{Line}
 use Rattle.script.specs.declared.requests.Request.{Request}
-use Rattle.script.specs.declared.requests.Request.the-variants.{Nothing, PowerOn, SetLines, Load, Read, ByteTime, Run, SetPosition, SetLength, SetCount, Fill, SetCells, Show, Swap, View, Bad}
+use Rattle.script.specs.declared.requests.Request.the-variants.{Nothing, PowerOn, SetLines, Controller, Rows, View, Bad}
+use Rattle.script.specs.declared.requests.Call.the-variants.{Load, Read, ByteTime, Run, SetPosition, SetLength}
+use Rattle.script.specs.declared.requests.Task.the-variants.{SetCount, Fill, SetCells, Show, Swap}
 
 -- "A register number or a byte above FF, drive lines above F and a density above 1 are errors of the script"
 unfoldable pub powering : ℕ → ℕ → Request
@@ -15,10 +17,10 @@ unfoldable pub wiring : ℕ → Request
 wiring bits = cond (ltb 0xF bits) Bad (SetLines bits)
 
 unfoldable pub loading : ℕ → ℕ → Request
-loading register byte = cond (ltb 0xFF register) Bad (cond (ltb 0xFF byte) Bad (Load register byte))
+loading register byte = cond (ltb 0xFF register) Bad (cond (ltb 0xFF byte) Bad (Controller (Load register byte)))
 
 unfoldable pub reading : ℕ → Request
-reading register = cond (ltb 0xFF register) Bad (Read register)
+reading register = cond (ltb 0xFF register) Bad (Controller (Read register))
 
 unfoldable pub viewing : ℕ → ℕ → ℕ → Request
 viewing density track sector =
@@ -27,31 +29,31 @@ viewing density track sector =
 
 -- "those named, 1 to 64 (decimal) of them": a line has no more than 65 numbers
 unfoldable pub cellsFrom : ℕ → ℕ → Request
-cellsFrom count place = cond (ltb count 2) Bad (SetCells place)
+cellsFrom count place = cond (ltb count 2) Bad (Rows (SetCells place))
 
 -- the letters, by how many numbers they take
 unfoldable pub ofNone : ℕ → Request
-ofNone letter = cond (eqb letter 0) Nothing (cond (eqb letter 0x42) ByteTime (cond (eqb letter 0x55) Swap Bad))
+ofNone letter = cond (eqb letter 0) Nothing (cond (eqb letter 0x42) (Controller ByteTime) (cond (eqb letter 0x55) (Rows Swap) Bad))
 
 unfoldable pub ofOne : ℕ → ℕ → Request
 ofOne letter a =
     cond (eqb letter 0x4E) (wiring a)
     (cond (eqb letter 0x52) (reading a)
-    (cond (eqb letter 0x47) (Run a)
-    (cond (eqb letter 0x58) (SetPosition a)
-    (cond (eqb letter 0x59) (SetLength a)
-    (cond (eqb letter 0x4B) (SetCount a)
+    (cond (eqb letter 0x47) (Controller (Run a))
+    (cond (eqb letter 0x58) (Controller (SetPosition a))
+    (cond (eqb letter 0x59) (Controller (SetLength a))
+    (cond (eqb letter 0x4B) (Rows (SetCount a))
     Bad)))))
 
 unfoldable pub ofTwo : ℕ → ℕ → ℕ → Request
 ofTwo letter a b =
     cond (eqb letter 0x50) (powering a b)
     (cond (eqb letter 0x57) (loading a b)
-    (cond (eqb letter 0x56) (Show a b)
+    (cond (eqb letter 0x56) (Rows (Show a b))
     Bad))
 
 unfoldable pub ofThree : ℕ → ℕ → ℕ → ℕ → Request
-ofThree letter a b c = cond (eqb letter 0x46) (Fill a b c) (cond (eqb letter 0x51) (viewing a b c) Bad)
+ofThree letter a b c = cond (eqb letter 0x46) (Rows (Fill a b c)) (cond (eqb letter 0x51) (viewing a b c) Bad)
 
 -- "an unknown letter, a missing or extra or too large number": an error of the script
 unfoldable pub requestOf : Line → Request

@@ -6,6 +6,8 @@ mod words;
 
 pub use lines::Line;
 pub use lines::Reader;
+pub use requests::Call;
 pub use requests::Request;
+pub use requests::Task;
 pub use requests::request_of;
 pub use words::Word;

@@ -3,23 +3,34 @@ ghost use mathlib.Core.Path.{_≡_};
 ghost use Rattle.script.specs.Requests.{powering, wiring, loading, reading, viewing, cellsFrom, ofNone, ofOne, ofTwo, ofThree, requestOf};
 use crate::lines::Line;
 
-pub enum Request {
-    // A line with nothing in it but a comment.
-    Nothing,
-    PowerOn { mfm: bool, length: u16 },
-    SetLines { bits: u8 },
+// What is asked of the controller that is there.
+pub enum Call {
     Load { register: u8, byte: u8 },
     Read { register: u8 },
     ByteTime,
     Run { limit: u16 },
     SetPosition { position: u16 },
     SetLength { length: u16 },
+}
+
+// What is asked of the rows of cells.
+pub enum Task {
     SetCount { count: u16 },
     Fill { place: u16, count: u16, cell: u16 },
     // The cells are the line's numbers behind its first.
     SetCells { place: u16 },
     Show { place: u16, count: u16 },
     Swap,
+}
+
+pub enum Request {
+    // A line with nothing in it but a comment.
+    Nothing,
+    PowerOn { mfm: bool, length: u16 },
+    SetLines { bits: u8 },
+    Controller(Call),
+    Rows(Task),
+    // Of the viewer.
     View { mfm: bool, track: u8, sector: u8 },
     Bad,
 }
@@ -54,10 +65,10 @@ fn load(register: u16, byte: u16) -> Request
     if 255 < byte {
         return Request::Bad;
     }
-    Request::Load {
+    Request::Controller(Call::Load {
         register: register as u8,
         byte: byte as u8,
-    }
+    })
 }
 
 fn read(register: u16) -> Request
@@ -66,9 +77,9 @@ fn read(register: u16) -> Request
     if 255 < register {
         return Request::Bad;
     }
-    Request::Read {
+    Request::Controller(Call::Read {
         register: register as u8,
-    }
+    })
 }
 
 fn view(density: u16, track: u16, sector: u16) -> Request
@@ -97,7 +108,7 @@ fn set_cells(count: usize, place: u16) -> Request
     if count < 2 {
         return Request::Bad;
     }
-    Request::SetCells { place }
+    Request::Rows(Task::SetCells { place })
 }
 
 fn of_none(letter: u8) -> Request
@@ -105,8 +116,8 @@ fn of_none(letter: u8) -> Request
 {
     match letter {
         0 => Request::Nothing,
-        b'B' => Request::ByteTime,
-        b'U' => Request::Swap,
+        b'B' => Request::Controller(Call::ByteTime),
+        b'U' => Request::Rows(Task::Swap),
         _ => Request::Bad,
     }
 }
@@ -117,10 +128,10 @@ fn of_one(letter: u8, a: u16) -> Request
     match letter {
         b'N' => set_lines(a),
         b'R' => read(a),
-        b'G' => Request::Run { limit: a },
-        b'X' => Request::SetPosition { position: a },
-        b'Y' => Request::SetLength { length: a },
-        b'K' => Request::SetCount { count: a },
+        b'G' => Request::Controller(Call::Run { limit: a }),
+        b'X' => Request::Controller(Call::SetPosition { position: a }),
+        b'Y' => Request::Controller(Call::SetLength { length: a }),
+        b'K' => Request::Rows(Task::SetCount { count: a }),
         _ => Request::Bad,
     }
 }
@@ -131,7 +142,7 @@ fn of_two(letter: u8, a: u16, b: u16) -> Request
     match letter {
         b'P' => power_on(a, b),
         b'W' => load(a, b),
-        b'V' => Request::Show { place: a, count: b },
+        b'V' => Request::Rows(Task::Show { place: a, count: b }),
         _ => Request::Bad,
     }
 }
@@ -140,11 +151,11 @@ fn of_three(letter: u8, a: u16, b: u16, c: u16) -> Request
     ensures { λ r. ⌜ r ≡ ofThree letter a b c ⌝ }
 {
     match letter {
-        b'F' => Request::Fill {
+        b'F' => Request::Rows(Task::Fill {
             place: a,
             count: b,
             cell: c,
-        },
+        }),
         b'Q' => view(a, b, c),
         _ => Request::Bad,
     }

@@ -57,6 +57,10 @@ servedOf length job.WriteTrack = Idle
 abbrev pub afresh : ℕ → Activity
 afresh pulses = Search pulses (Gap 0)
 
+-- behind a record: "With m .. the search starts afresh instead; a bad data CRC does not stop it"; without m the command is over
+unfoldable pub againOf : Bool → Activity
+againOf multiple = cond multiple (afresh 0) Idle
+
 -- "One that matches but has a bad CRC sets bit 3 and the search goes on; a good match clears it."
 unfoldable pub foundOf : Order → Seen → ℕ → Id → Act
 foundOf o s pulses id =

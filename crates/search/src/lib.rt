@@ -1,6 +1,6 @@
 // The search for an ID.
 ghost use mathlib.Core.Path.{_≡_};
-ghost use Rattle.search.specs.Search.{pulsesOf, sideOf, sideMatches, matchesFor, servedOf, foundOf, hearsOf, searchedOf};
+ghost use Rattle.search.specs.Search.{pulsesOf, sideOf, sideMatches, matchesFor, servedOf, againOf, foundOf, hearsOf, searchedOf};
 use activity::Act;
 use activity::Activity;
 use activity::Deed;
@@ -92,6 +92,17 @@ fn hears(o: Order, s: Seen, pulses: u8, heard: Heard) -> Act
             cell: s.cell,
         },
         Heard::Whole(id) => found(o, s, pulses, id),
+    }
+}
+
+// Behind a record: the next search, or the end.
+pub fn again(multiple: bool) -> Activity
+    ensures { λ r. ⌜ r ≡ againOf multiple ⌝ }
+{
+    if multiple {
+        Activity::Search(0, Scan::Gap(0))
+    } else {
+        Activity::Idle
     }
 }
 

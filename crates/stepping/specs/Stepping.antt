@@ -12,7 +12,7 @@ use Rattle.activity.specs.declared.Activity.{Activity}
 use Rattle.activity.specs.declared.Activity.the-variants.{Idle, Seek, Stop, Settle}
 use Rattle.activity.specs.declared.Deed.the-variants.{Nothing, NotFound, Step, Halt}
 
--- "Restore .. if track 0 is still off at the end, Seek Error if V (bit 2), no verify."
+-- "Restore .. if track 0 is still off at the end, Seek Error if V (bit 2), no verify.": which loads no head (decision 15).
 -- "V: load head, settle 469/938 from the next byte time". The bytes to 0F are Restores; `rule`: it stops by the track 0 rule.
 unfoldable pub stopOf : Order → Seen → Bool → Act
 stopOf o s rule =

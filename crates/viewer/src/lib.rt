@@ -8,8 +8,6 @@ ghost use Rattle.viewer.specs.Sectors.{registerOver, spanBehind, spanIn,
 ghost use Rattle.viewer.specs.Views.{cellsWithin, refusalOf, secondOf, placeOf, viewOf, startOf, numberOf};
 use fields::Behind;
 use fields::Found;
-use scan::DataMark;
-use scan::Id;
 
 // Where a side has the data cells of a sector: from one cell up to another.
 pub enum Span {

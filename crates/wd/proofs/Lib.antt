@@ -2,4 +2,5 @@
 pub mod Valid
 pub mod Runs
 pub mod Stretches
+pub mod Handed
 pub mod Once

@@ -1,12 +1,15 @@
 -- A run, byte time by byte time, as the loop of the code has it. Assumes nothing.
 use mathlib.Core.Path.{_≡_, refl, sym, ap, ap₂, _∙_}
-use mathlib.Core.Bool.{Bool, true, false, cond}
+use mathlib.Core.Bool.{Bool, true, false, cond, not, _||_}
 use mathlib.Core.List.{List}
 use Prim.Native.Nat.{ℕ, zero, suc, _+_, _-_, _≤_, _<_}
+use native.Mathlib.Decide.{ℕ-discrete}
 use native.Mathlib.Numerals.{sub-one}
 use native.Mathlib.Omega.{arith}
+use lib.Dec.{eqb}
 use lib.ListN.{length}
-use borrow.Author.Tests.{eq-eqb, ne-eqb}
+use borrow.Author.Tests.{eqb-true, eqb-false, not-false, eq-eqb, ne-eqb}
+use Rattle.common.proofs.Cases.{neither}
 use Rattle.wd.proofs.Valid.{row-length, pass-open}
 use Rattle.chip.specs.declared.Lines.{Lines}
 use Rattle.wd.specs.declared.Machine.{Machine}
@@ -37,7 +40,29 @@ unfolding runsOn
 no-more zero l r h = refl
 no-more (suc n) l r h = absurd (omega arith)
 
-one-more : (n : ℕ) (l : Lines) (r : Run) → 0 < n → runsOn n l r ≡ cond (stopsAt (nextIn l r)) (onward l r) (runsOn (n - 1) l (onward l r))
+-- "Limit 0 only makes the checks for 2 and 3.": what the code asks before the first byte time
+pub none-run :
+    (m : Machine) (l : Lines) (limit : ℕ) (row : List ℕ)
+    → (not (eqb (rowRefusal m (length row)) 0) || eqb limit 0) ≡ true
+    → runFrom m l limit row ≡ at (emptyRun (rowRefusal m (length row)) m) row
+none-run m l limit row e = by (ℕ-discrete (rowRefusal m (length row)) 0)
+  where
+    by : Dec (rowRefusal m (length row) ≡ 0) → runFrom m l limit row ≡ at (emptyRun (rowRefusal m (length row)) m) row
+    by (yes h) =
+        let none : eqb limit 0 ≡ true = rw (eq-eqb (rowRefusal m (length row)) 0 h) at e in
+        let zero : limit ≡ 0 = eqb-true limit 0 none in
+        open-run m l limit row h
+        ∙ no-more limit l (at (emptyRun 0 m) row) (omega arith)
+        ∙ ap (λ (n : ℕ). at (emptyRun n m) row) (sym h)
+    by (no h) = refused-run m l limit row h
+
+pub some-run : (number limit : ℕ) → (not (eqb number 0) || eqb limit 0) ≡ false → (number ≡ 0) × (0 < limit)
+some-run number limit e =
+    let h = neither (not (eqb number 0)) (eqb limit 0) e in
+    let some : limit ≡ 0 → ⊥ = eqb-false limit 0 (h .1) in
+    (eqb-true number 0 (not-false _ (h .0)), omega arith)
+
+pub one-more : (n : ℕ) (l : Lines) (r : Run) → 0 < n → runsOn n l r ≡ cond (stopsAt (nextIn l r)) (onward l r) (runsOn (n - 1) l (onward l r))
 unfolding runsOn
 one-more zero l r h = absurd (omega arith)
 one-more (suc n) l r h = ap (λ (k : ℕ). cond (stopsAt (nextIn l r)) (onward l r) (runsOn k l (onward l r))) (sym (sub-one (suc n)))

@@ -1,7 +1,7 @@
 -- A stretch is the byte times that it stands for: a run that passes them at once comes to where it comes by passing each.
 -- Assumes nothing.
 use mathlib.Core.Path.{_≡_, refl, sym, ap, ap₂, subst, _∙_}
-use mathlib.Core.Bool.{Bool, true, false, not, _&&_, _||_, and-false, and-not-self, or-false}
+use mathlib.Core.Bool.{Bool, true, false, cond, not, _&&_, _||_, and-false, and-not-self, or-false}
 use mathlib.Core.List.{List}
 use Prim.Native.Nat.{ℕ, zero, suc, _+_, _-_, _≤_, _<_}
 use native.Mathlib.Omega.{arith}
@@ -29,10 +29,10 @@ use Rattle.wd.specs.declared.Machine.{Machine}
 use Rattle.wd.specs.declared.Passed.{Passed}
 use Rattle.wd.specs.declared.Ran.{Ran}
 use Rattle.wd.specs.Turns.{appliedOf, seesOf, doesOf, turnedOf}
-use Rattle.wd.specs.Rows.{rowRefusal, under, refusedAt, doneBy, passedOf, rowOf, tallied, countedOf, ranTo, stopsAt, Run, onward, runsOn}
-use Rattle.wd.specs.Stretches.{stretchedOf, ranOn}
+use Rattle.wd.specs.Rows.{rowRefusal, under, refusedAt, doneBy, passedOf, rowOf, tallied, countedOf, ranTo, emptyRun, stopsAt, Run, onward, runsOn, runFrom}
+use Rattle.wd.specs.Stretches.{stretchedOf, firstOf, ranOn}
 use Rattle.wd.proofs.Valid.{Held, valid-ring, open-row, pass-open}
-use Rattle.wd.proofs.Runs.{at, Along}
+use Rattle.wd.proofs.Runs.{at, open-run, Along, starts}
 
 -- ---- one byte time
 
@@ -323,25 +323,56 @@ goes-on p e =
     let g = neither (not (eqb (p .number) 0)) (p .machine .wires .drq) (h .0) in
     (eqb-true (p .number) 0 (not-false _ (g .0)), g .1, h .1)
 
-module _ (l : Lines) (ran : Ran) (row : List ℕ) (passed : Passed) (next : Ran) (row′ : List ℕ)
-    (hp : passed ≡ passedOf (ran .machine) l row) (hn : next ≡ ranTo (ran .tally) passed) (on : stopsAt passed ≡ false)
-    (whole : ℕ) (start : Run) (left : ℕ) (v : Along l whole start left next row′)
-    (k : ℕ) (hk : k ≡ aheadOf (next .machine .ring) (next .machine .activity) left row′) where
-  quiet-next : Quiet l next row′
-  unfolding ranTo
-  quiet-next =
-      let g = goes-on passed on in
-      let told = after-pass (ran .machine) l row (sym (ap (λ (p : Passed). p .number) hp) ∙ g .0) in
-      record {
-        opens = v .passes;
-        done = ap (λ (r : Ran). r .number) hn ∙ g .0;
-        drq = ap (λ (r : Ran). r .machine .wires .drq) hn ∙ g .1;
-        intrq = ap (λ (r : Ran). r .machine .wires .intrq) hn ∙ g .2;
-        seen = ap (λ (r : Ran). r .machine .past .ready) hn ∙ ap (λ (p : Passed). p .machine .past .ready) hp ∙ told;
-      }
+-- so nothing keeps a stretch from coming next
+pub quiet-after :
+    (l : Lines) (ran : Ran) (row : List ℕ) (passed : Passed) (next : Ran) (row′ : List ℕ)
+    → passed ≡ passedOf (ran .machine) l row
+    → next ≡ ranTo (ran .tally) passed
+    → stopsAt passed ≡ false
+    → rowRefusal (next .machine) (length row′) ≡ 0
+    → Quiet l next row′
+unfolding ranTo
+quiet-after l ran row passed next row′ hp hn on opens =
+    let g = goes-on passed on in
+    let told = after-pass (ran .machine) l row (sym (ap (λ (p : Passed). p .number) hp) ∙ g .0) in
+    record {
+      opens = opens;
+      done = ap (λ (r : Ran). r .number) hn ∙ g .0;
+      drq = ap (λ (r : Ran). r .machine .wires .drq) hn ∙ g .1;
+      intrq = ap (λ (r : Ran). r .machine .wires .intrq) hn ∙ g .2;
+      seen = ap (λ (r : Ran). r .machine .past .ready) hn ∙ ap (λ (p : Passed). p .machine .past .ready) hp ∙ told;
+    }
 
+-- what lets a run begin with one
+begins :
+    (drq intrq was ready : Bool) (k n : ℕ)
+    → k ≡ cond (drq || intrq || (was && not ready) || (not was && ready)) 0 n
+    → 0 < k
+    → (drq ≡ false) × (intrq ≡ false) × (was ≡ ready) × (k ≡ n)
+begins true intrq was ready k n e more = absurd (omega (arith, e, more))
+begins false true was ready k n e more = absurd (omega (arith, e, more))
+begins false false true true k n e more = (refl, refl, refl, e)
+begins false false true false k n e more = absurd (omega (arith, e, more))
+begins false false false true k n e more = absurd (omega (arith, e, more))
+begins false false false false k n e more = (refl, refl, refl, e)
+
+pub quiet-first :
+    (l : Lines) (m : Machine) (limit : ℕ) (row : List ℕ) (k : ℕ)
+    → rowRefusal m (length row) ≡ 0
+    → k ≡ firstOf m (l .ready) limit row
+    → 0 < k
+    → Quiet l (emptyRun 0 m) row × (k ≡ aheadOf (m .ring) (m .activity) limit row)
+unfolding firstOf emptyRun
+quiet-first l m limit row k opens hk more =
+    let b = begins (m .wires .drq) (m .wires .intrq) (m .past .ready) (l .ready) k (aheadOf (m .ring) (m .activity) limit row) hk more in
+    (record { opens = opens; done = refl; drq = b .0; intrq = b .1; seen = b .2 }, b .3)
+
+-- a run that a stretch comes next in, or none
+module _ (l : Lines) (next : Ran) (row′ : List ℕ) (whole : ℕ) (start : Run) (left : ℕ) (v : Along l whole start left next row′)
+    (k : ℕ) (comes : 0 < k → Quiet l next row′ × (k ≡ aheadOf (next .machine .ring) (next .machine .activity) left row′)) where
   passes-next : 0 < k → Passes (next .machine .ring) (next .machine .activity) left row′ k
   passes-next more =
+      let hk = comes more .1 in
       subst (λ (k : ℕ). Passes (next .machine .ring) (next .machine .activity) left row′ k) (sym hk)
       (ahead-passes (next .machine .ring) (next .machine .activity) left row′ (rw hk at more))
 
@@ -362,7 +393,7 @@ module _ (l : Lines) (ran : Ran) (row : List ℕ) (passed : Passed) (next : Ran)
     where
       by : (n : ℕ) → k ≡ n → rowRefusal (after .machine) (length row′) ≡ 0
       by zero e = rw e (v .passes)
-      by (suc n) e = stretch-opens l next row′ quiet-next left k (passes-next (omega arith))
+      by (suc n) e = stretch-opens l next row′ (comes (omega arith) .0) left k (passes-next (omega arith))
 
   rest-after : k ≤ left → runsOn left l (at next row′) ≡ runsOn (left - k) l (at after row′)
   unfolding ranOn
@@ -373,7 +404,7 @@ module _ (l : Lines) (ran : Ran) (row : List ℕ) (passed : Passed) (next : Ran)
       by (suc n) e =
           let all : left ≡ left - k + k = omega arith in
           ap (λ (n : ℕ). runsOn n l (at next row′)) all
-          ∙ stretch-runs l next row′ quiet-next left k (passes-next (omega arith)) (left - k)
+          ∙ stretch-runs l next row′ (comes (omega arith) .0) left k (passes-next (omega arith)) (left - k)
 
   -- the run goes on behind the stretch as it would have gone on byte time by byte time
   pub stretch-along : k ≤ left → (ran″ : Ran) (row″ : List ℕ) → ran″ ≡ after → row″ ≡ row′ → Along l whole start (left - k) ran″ row″
@@ -388,3 +419,32 @@ module _ (l : Lines) (ran : Ran) (row : List ℕ) (passed : Passed) (next : Ran)
         inward = rw (tally-on next k (l .ready)) (omega (arith, v .inward));
         outward = rw (tally-on next k (l .ready)) (omega (arith, v .outward));
       }))
+
+-- ---- where a run begins
+
+module _ (l : Lines) (m : Machine) (limit : ℕ) (row : List ℕ) (opens : rowRefusal m (length row) ≡ 0) (fits : limit < 65536)
+    (ran : Ran) (e : ran ≡ emptyRun 0 m) (k : ℕ) (hk : k ≡ firstOf m (l .ready) limit row) (most : k ≤ limit) where
+  begun : Along l limit (at ran row) limit ran row
+  begun = starts l m limit ran row e opens fits
+
+  comes : 0 < k → Quiet l ran row × (k ≡ aheadOf (ran .machine .ring) (ran .machine .activity) limit row)
+  unfolding emptyRun
+  comes more = rw e (quiet-first l m limit row k opens hk more)
+
+  -- there is room for the stretch
+  pub first-fits : (ran .tally .passed + k < 65536) × (ran .machine .ring .position + k < 65536)
+  first-fits = (omega (arith, begun .room, most), stretch-fits l ran row limit (at ran row) limit begun k comes)
+
+  pub first-along : (ran′ : Ran) (row′ : List ℕ) → ran′ ≡ ranOn ran k (l .ready) → row′ ≡ row → Along l limit (at ran row) (limit - k) ran′ row′
+  first-along = stretch-along l ran row limit (at ran row) limit begun k comes most
+
+  -- the run goes on behind it
+  pub first-run :
+      (ran′ : Ran) (row′ : List ℕ)
+      → ran′ ≡ ranOn ran k (l .ready)
+      → row′ ≡ row
+      → runFrom m l limit row ≡ runsOn (limit - k) l (at ran′ row′)
+  first-run ran′ row′ h same =
+      open-run m l limit row opens
+      ∙ ap (λ (r : Ran). runsOn limit l (at r row)) (sym e)
+      ∙ first-along ran′ row′ h same .rest

@@ -7,3 +7,4 @@ pub mod Loads
 pub mod Turns
 pub mod Rows
 pub mod Stretches
+pub mod Handing

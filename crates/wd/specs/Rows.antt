@@ -102,3 +102,7 @@ runOf m l limit row = runFrom m l limit row .ran
 
 abbrev pub runRowOf : Machine → Lines → ℕ → List ℕ → List ℕ
 runRowOf m l limit row = runFrom m l limit row .row
+
+-- a run that has come so far, so many byte times further
+abbrev pub furtherOf : Ran → Lines → ℕ → List ℕ → Run
+furtherOf ran l left row = runsOn left l (record { ran = ran; row = row })

@@ -2,17 +2,16 @@
 ghost use mathlib.Core.Path.{_≡_};
 ghost use Prim.Native.Nat.{_+_, _≤_, _<_};
 ghost use lib.ListN.{length};
-ghost use Rattle.wd.specs.Machines.{validOf, freshOf, poweredOf};
+ghost use Rattle.wd.specs.Machines.{validOf, clearFlags, noConditions, freshOf, poweredOf};
 ghost use Rattle.wd.specs.Reads.{statusOf, withBus, readOf};
-ghost use Rattle.chip.specs.Registers.{readRefusal, loadRefusal};
 ghost use Rattle.wd.specs.Loads.{begunOf, commandedOf, loadedOf};
 ghost use Rattle.wd.specs.Turns.{appliedOf, turnedOf};
 ghost use Rattle.stretch.specs.Stretches.{aheadOf};
-ghost use Rattle.wd.specs.Stretches.{stretchedOf, ranOn};
-ghost use Rattle.wd.specs.Rows.{rowRefusal, refusedAt, doneBy, passedOf, rowOf, stopsAt, tallied, pulseIn, countedOf, ranTo, emptyRun, runOf, runRowOf};
+ghost use Rattle.wd.specs.Stretches.{stretchedOf, firstOf, ranOn};
+ghost use Rattle.wd.specs.Handing.{overOf, handedOf, aloneOf};
+ghost use Rattle.wd.specs.Rows.{rowRefusal, refusedAt, doneBy, passedOf, rowOf, stopsAt, pulseIn, countedOf, ranTo, emptyRun, runOf, runRowOf, furtherOf};
 use activity::Act;
 use activity::Activity;
-use activity::Deed;
 use chip::Conditions;
 use chip::Flags;
 use chip::Head;
@@ -26,6 +25,7 @@ use chip::Wires;
 use chip::registers;
 use chip::rings;
 use chip::status_byte;
+use handing::Handing;
 use order::Command;
 use order::Decoded;
 use order::Job;
@@ -209,6 +209,69 @@ fn ran_on(ran: Ran, passed: u16, ready: bool) -> Ran
     }
 }
 
+// A run of the one byte time behind which the machine is this.
+fn alone(machine: Machine) -> Ran
+    ensures { λ r. ⌜ r ≡ aloneOf machine ⌝ }
+{
+    Ran {
+        number: 0,
+        tally: Tally {
+            passed: 1,
+            inward: 0,
+            outward: 0,
+        },
+        machine,
+    }
+}
+
+// Type I status, with nothing on.
+fn clear_flags() -> Flags
+    ensures { λ r. ⌜ r ≡ clearFlags ⌝ }
+{
+    Flags {
+        type1: true,
+        protected: false,
+        deleted: false,
+        missing: false,
+        crc: false,
+        lost: false,
+    }
+}
+
+fn no_conditions() -> Conditions
+    ensures { λ r. ⌜ r ≡ noConditions ⌝ }
+{
+    Conditions {
+        on: false,
+        off: false,
+        index: false,
+    }
+}
+
+// A run goes on for so many byte times. Behind one that has not stopped it, those in which nothing happens are passed at once.
+fn run_on(start: Ran, lines: Lines, limit: u16, row: &mut [u16]) -> Ran
+    requires { ⌜ (rowRefusal (start .machine) (length (now row)) ≡ 0) × ((start .tally .passed + limit ≤ 65535) × ((start .tally .inward ≤ start .tally .passed) × (start .tally .outward ≤ start .tally .passed))) ⌝ }
+    ensures { λ r. ⌜ (r ≡ furtherOf start lines limit (now (row .entry)) .ran) × (now (row .exit) ≡ furtherOf start lines limit (now (row .entry)) .row) ⌝ }
+{
+    let mut ran = start;
+    let mut left = limit;
+    while 0 < left {
+        let machine = ran.machine;
+        let tally = ran.tally;
+        let passed = machine.pass(lines, row);
+        let next = ran_to(tally, passed);
+        if stops(passed) {
+            return next;
+        }
+        left -= 1;
+        let moved = next.machine;
+        let stretch = moved.ahead(left, row);
+        ran = ran_on(next, stretch, lines.ready);
+        left -= stretch;
+    }
+    ran
+}
+
 impl Machine {
     fn fresh(length: u16, mfm: bool) -> Machine
         ensures { λ r. ⌜ r ≡ freshOf length mfm ⌝ }
@@ -228,14 +291,7 @@ impl Machine {
                 drq: false,
                 intrq: false,
             },
-            flags: Flags {
-                type1: true,
-                protected: false,
-                deleted: false,
-                missing: false,
-                crc: false,
-                lost: false,
-            },
+            flags: clear_flags(),
             head: Head {
                 loaded: false,
                 inward: false,
@@ -244,11 +300,7 @@ impl Machine {
                 ready: false,
                 index: false,
             },
-            conditions: Conditions {
-                on: false,
-                off: false,
-                index: false,
-            },
+            conditions: no_conditions(),
             order: Order {
                 job: Job::Nothing,
                 byte: 0,
@@ -528,33 +580,96 @@ impl Machine {
         }
     }
 
+    // The byte times of a stretch that a run begins with. None where a wire is on, since the run stops there; nor where Ready is
+    // seen anew, since a condition may be met.
+    fn first(self, ready: bool, limit: u16, row: &mut [u16]) -> u16
+        ensures { λ r. ⌜ (r ≡ firstOf self ready limit (now (row .entry))) × (now (row .exit) ≡ now (row .entry)) ⌝ }
+        ensures { λ r. ⌜ r ≤ limit ⌝ }
+    {
+        let wires = self.wires;
+        let past = self.past;
+        if wires.drq | wires.intrq | (past.ready & !ready) | (!past.ready & ready) {
+            return 0;
+        }
+        self.ahead(limit, row)
+    }
+
+    // The byte that goes over, where the cell is not refused.
+    fn over(self, lines: Lines, cell: u16) -> Handing
+        ensures { λ r. ⌜ r ≡ overOf self lines cell ⌝ }
+    {
+        if 511 < cell {
+            return Handing::Nothing;
+        }
+        let ring = self.ring;
+        let regs = self.regs;
+        let wires = self.wires;
+        let activity = self.activity;
+        handing::goes_over(
+            rings::look(self.mfm, ring, regs, wires.drq, lines, cell),
+            activity,
+        )
+    }
+
+    // The machine behind the byte time in which it went over.
+    fn handed(self, ready: bool, dr: u8, next: Activity) -> Machine
+        ensures { λ r. ⌜ r ≡ handedOf self ready dr next ⌝ }
+    {
+        let ring = self.ring;
+        let regs = self.regs;
+        let wires = self.wires;
+        let flags = self.flags;
+        let head = self.head;
+        let past = self.past;
+        let conditions = self.conditions;
+        let order = self.order;
+        let index = ring.position == 0;
+        let mut after = flags;
+        after.lost = flags.lost | wires.drq;
+        Machine {
+            ring: rings::next(ring),
+            mfm: self.mfm,
+            regs: Regs {
+                tr: regs.tr,
+                sr: regs.sr,
+                dr,
+            },
+            wires: Wires {
+                drq: true,
+                intrq: wires.intrq | rings::told(conditions, past.ready, ready, index),
+            },
+            flags: after,
+            head,
+            past: Past { ready, index },
+            conditions,
+            order,
+            activity: next,
+        }
+    }
+
     // Byte times up to a limit, to the first that ends with DRQ or INTRQ on. A byte time keeps a valid machine valid and
-    // the row's length, so refusals 2 and 3 are looked at once; and behind one that has not stopped the run, those in which
-    // nothing happens are passed at once.
+    // the row's length, so refusals 2 and 3 are looked at once. A byte that goes over in the first one ends the run with it.
     pub fn run(self, lines: Lines, limit: u16, row: &mut [u16]) -> Ran
         ensures { λ r. ⌜ (r ≡ runOf self lines limit (now (row .entry))) × (now (row .exit) ≡ runRowOf self lines limit (now (row .entry))) ⌝ }
     {
         let refusal = self.row_refusal(row.len());
-        if refusal != 0 {
+        if (refusal != 0) | (limit == 0) {
             return empty_run(refusal, self);
         }
-        let mut ran = empty_run(0, self);
-        let mut left = limit;
-        while 0 < left {
-            let machine = ran.machine;
-            let tally = ran.tally;
-            let passed = machine.pass(lines, row);
-            let next = ran_to(tally, passed);
-            if stops(passed) {
-                return next;
+        let ring = self.ring;
+        let position = ring.position as usize;
+        let handing = self.over(lines, row[position]);
+        match handing {
+            Handing::Over { next, dr, cell } => {
+                row[position] = cell;
+                alone(self.handed(lines.ready, dr, next))
             }
-            left -= 1;
-            let moved = next.machine;
-            let stretch = moved.ahead(left, row);
-            ran = ran_on(next, stretch, lines.ready);
-            left -= stretch;
+            Handing::Nothing => {
+                let stretch = self.first(lines.ready, limit, row);
+                let start = ran_on(empty_run(0, self), stretch, lines.ready);
+                run_on(start, lines, limit - stretch, row)
+            }
         }
-        ran
     }
 
     // One byte time over the lent row: a run of one. So a byte time has one place where it is made, which keeps the machine

@@ -4,14 +4,14 @@ use Prim.Native.Nat.{ℕ, _+_, _-_, _/_, _%_}
 use lib.Dec.{ltb, leb, eqb}
 use Rattle.crc.specs.Crc.{crcByte}
 use Rattle.scan.specs.Marks.{sync, leadOf, markCrc}
-use Rattle.activity.specs.Acts.{pass, write}
+use Rattle.activity.specs.Acts.{pass, write, takenOf}
 use Rattle.activity.specs.declared.Seen.{Seen}
 use Rattle.activity.specs.declared.Act.{Act}
 use Rattle.activity.specs.declared.Activity.{Activity}
 use Rattle.activity.specs.declared.Activity.the-variants.{Idle, Preamble, Put}
 use Rattle.activity.specs.declared.Deed.{Deed}
 use Rattle.activity.specs.declared.Deed.the-variants.{Nothing, Written, Ask, Late, Take}
-use Rattle.reading.specs.Reading.{againOf}
+use Rattle.search.specs.Search.{againOf}
 
 -- "FM writes from 12: six 00, flagged mark; MFM from 23: twelve 00, three flagged A1, mark." Byte times behind the ID's last
 -- cell are numbered from 1; the last that is kept, the last 00, and the mark's:
@@ -55,12 +55,9 @@ preambleOf s deleted left passed =
     (preambleNext (s .mfm) left (passed + 1) (chosenMark deleted))
     (asksOf (passed + 1)))
 
--- "takes DR, or 00 .. if DRQ is on"
-unfoldable pub takenOf : Seen → ℕ
-takenOf s = cond (s .drq) 0x00 (s .dr)
-
--- "Then the data, two CRC bytes, one FF". "Each data cell takes DR, or 00 with Lost Data if DRQ is on, and the command goes on (000 over 003);
--- then DRQ is on, but off after the last. The FF ends it. m as above.": left counts the two CRC bytes and the FF too.
+-- "Then the data, two CRC bytes, one FF". "Each data cell takes DR, or 00 with Lost Data if DRQ is on, and the command goes on
+-- (000 over 003); then DRQ is on, but off after the last. The FF ends it. m as above.": left counts the two CRC bytes and the
+-- FF too.
 unfoldable pub putOf : Seen → Bool → ℕ → ℕ → Act
 putOf s multiple left crc =
     cond (leb 4 left) (write (takenOf s) (Put (left - 1) (crcByte crc (takenOf s))) (Take (leb 5 left)))

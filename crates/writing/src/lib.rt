@@ -1,12 +1,13 @@
 // Write Sector behind its ID.
 ghost use mathlib.Core.Path.{_≡_};
 ghost use Prim.Native.Nat.{_≤_};
-ghost use Rattle.writing.specs.Writing.{lastKept, lastZero, markPlace, chosenMark, markCell, preambleCell, preambleNext, asksOf, preambleOf, takenOf, putOf};
+ghost use Rattle.writing.specs.Writing.{lastKept, lastZero, markPlace, chosenMark, markCell, preambleCell, preambleNext, asksOf, preambleOf, putOf};
 use activity::Act;
 use activity::Activity;
 use activity::Deed;
 use activity::Seen;
-use reading::again;
+use activity::taken;
+use search::again;
 
 // Byte times behind the ID's last cell, numbered from 1: up to this one the cells are kept.
 fn last_kept(mfm: bool) -> u16
@@ -96,13 +97,6 @@ pub fn preamble(s: Seen, deleted: bool, left: u16, passed: u8) -> Act
         deed: asks(n),
         cell: preamble_cell(s.mfm, n, mark, s.cell),
     }
-}
-
-// The byte that a written cell takes.
-pub fn taken(s: Seen) -> u8
-    ensures { λ r. ⌜ r ≡ takenOf s ⌝ }
-{
-    if s.drq { 0x00 } else { s.dr }
 }
 
 // A cell behind the mark: data, the two CRC bytes, the FF.

@@ -1,53 +1,71 @@
--- `bench::work` is safe and ends: the session stays ready, the rows keep their room, and the measure is the count of bytes.
+-- `bench::work` is safe and ends: the rows fit from line to line, and the measure is how many numbers of lines are left.
 -- Assumes nothing.
+use Prim.Native.Nat.{_-_}
+use native.Mathlib.Omega.{arith}
 use borrow.Author.Needs.{needs}
-use Rattle.bench.specs.Benches.{Room}
-use Rattle.bench.specs.Sessions.{Ready}
+use Rattle.bench.specs.Rows.{Fits}
 use Rattle.bench.proofs.work.Statement.{statement}
 use Rattle.bench.proofs.work.Tie as tie
 
 abbrev Inv-loop : tie.InvT-loop
-Inv-loop first₀ second₀ buffer₀ out₀ session₀ left₀ first second buffer out session left =
-    Ready session × (Room first × Room second)
+Inv-loop cells₀ buffer₀ out₀ machine₀ lines₀ session₀ source₀ number₀ cells buffer out machine lines session source number = Fits (session .rows)
 
 abbrev μ-loop : tie.MeasureT-loop
-μ-loop first₀ second₀ buffer₀ out₀ session₀ left₀ first second buffer out session left = left
+μ-loop cells₀ buffer₀ out₀ machine₀ lines₀ session₀ source₀ number₀ cells buffer out machine lines session source number = 0xFFFFFFFFFFFFFFFF - number
 
 start-requires : tie.Need-start-requires Inv-loop μ-loop
 start-requires c κs = search needs
 
+lines-of-requires : tie.Need-lines-of-requires Inv-loop μ-loop
+lines-of-requires c κs = search needs
+
+start-requires-2 : tie.Need-start-requires-2 Inv-loop μ-loop
+start-requires-2 c κs = search needs
+
+start-requires-3 : tie.Need-start-requires-3 Inv-loop μ-loop
+start-requires-3 c κs = search needs
+
 loop-holds : tie.Need-loop-holds Inv-loop μ-loop
 loop-holds c = search needs
 
-same-length : tie.Need-same-length Inv-loop μ-loop
-same-length c = search needs
+add-number : tie.Need-add-number Inv-loop μ-loop
+add-number c = search needs
 
-same-length-2 : tie.Need-same-length-2 Inv-loop μ-loop
-same-length-2 c = search needs
+next-line-requires : tie.Need-next-line-requires Inv-loop μ-loop
+next-line-requires c κs = search needs
+
+request-of-requires : tie.Need-request-of-requires Inv-loop μ-loop
+request-of-requires c κs = search needs
+
+lines-after-requires : tie.Need-lines-after-requires Inv-loop μ-loop
+lines-after-requires c κs = search needs
+
+answer-requires : tie.Need-answer-requires Inv-loop μ-loop
+answer-requires c κs = search needs
+
+with-state-requires : tie.Need-with-state-requires Inv-loop μ-loop
+with-state-requires c κs = search needs
+
+end-line-requires : tie.Need-end-line-requires Inv-loop μ-loop
+end-line-requires c κs = (c .before .before .before .before .before .before .before .before .before .before .before .before .before .loop .inv, c .before .before .before .before .before .before .before .before .before .before .next-line .ensures)
+
+put-error-requires : tie.Need-put-error-requires Inv-loop μ-loop
+put-error-requires c κs = search needs
 
 returns : tie.Need-returns Inv-loop μ-loop
 returns c = search needs
 
-step-requires : tie.Need-step-requires Inv-loop μ-loop
-step-requires c κs = search needs
-
-sub-left : tie.Need-sub-left Inv-loop μ-loop
-sub-left c = search needs
+returns-2 : tie.Need-returns-2 Inv-loop μ-loop
+returns-2 c = search needs
 
 loop-less : tie.Need-loop-less Inv-loop μ-loop
-loop-less c = search needs
+loop-less c = omega (arith, c .before .before .before .before .before .before .before .before .before .before .before .before .before .before .before .loop-test .taken)
 
 loop-again : tie.Need-loop-again Inv-loop μ-loop
 loop-again c = search needs
 
-same-length-3 : tie.Need-same-length-3 Inv-loop μ-loop
-same-length-3 c = search needs
-
-same-length-4 : tie.Need-same-length-4 Inv-loop μ-loop
-same-length-4 c = search needs
-
-returns-2 : tie.Need-returns-2 Inv-loop μ-loop
-returns-2 c = search needs
+returns-3 : tie.Need-returns-3 Inv-loop μ-loop
+returns-3 c = search needs
 
 pub work-spec : {M : Type 1} → statement M
 work-spec =
@@ -56,14 +74,20 @@ work-spec =
     Inv-loop
     μ-loop
     start-requires
+    lines-of-requires
+    start-requires-2
+    start-requires-3
     loop-holds
-    same-length
-    same-length-2
+    add-number
+    next-line-requires
+    request-of-requires
+    lines-after-requires
+    answer-requires
+    with-state-requires
+    end-line-requires
+    put-error-requires
     returns
-    step-requires
-    sub-left
+    returns-2
     loop-less
     loop-again
-    same-length-3
-    same-length-4
-    returns-2)
+    returns-3)

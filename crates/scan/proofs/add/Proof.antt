@@ -27,13 +27,13 @@ pick-requires-4 c κs = search needs
 returns : tie.Need-returns
 unfolding addedOf pushedOf
 returns c =
-    simp (
-      sym (c .pick4 .ensures),
-      sym (c .before .pick3 .ensures),
-      sym (c .before .before .pick2 .ensures),
-      sym (c .before .before .before .pick .ensures),
+    rw (
       lt-ltb _ _ (c .before .before .before .before .if1 .taken),
-      sym (c .before .before .before .before .before .step .ensures),
+      c .pick4 .ensures,
+      c .before .pick3 .ensures,
+      c .before .before .pick2 .ensures,
+      c .before .before .before .pick .ensures,
+      c .before .before .before .before .before .step .ensures,
     )
 
 returns-2 : tie.Need-returns-2

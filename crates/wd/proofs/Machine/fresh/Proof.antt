@@ -1,12 +1,18 @@
--- `wd::Machine::fresh` meets its contract, by its tests and its callees' contracts. Assumes nothing.
-use mathlib.Core.Path.{refl}
+-- `wd::Machine::fresh` meets its contract, by its callees' contracts. Assumes nothing.
+use borrow.Author.Needs.{needs}
 use Rattle.wd.proofs.Machine.fresh.Statement.{statement}
 use Rattle.wd.specs.Machines.{freshOf}
 use Rattle.wd.proofs.Machine.fresh.Tie as tie
 
+clear-flags-requires : tie.Need-clear-flags-requires
+clear-flags-requires c κs = search needs
+
+no-conditions-requires : tie.Need-no-conditions-requires
+no-conditions-requires c κs = search needs
+
 returns : tie.Need-returns
 unfolding freshOf
-returns c = refl
+returns c = simp (c .no-conditions .ensures, c .before .clear-flags .ensures)
 
 pub fresh-spec : {M : Type 1} → statement M
-fresh-spec = tie.close (tie.spec returns)
+fresh-spec = tie.close (tie.spec clear-flags-requires no-conditions-requires returns)

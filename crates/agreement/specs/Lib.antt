@@ -1,0 +1,2 @@
+-- The viewer and the machine agree.
+pub mod Agreement

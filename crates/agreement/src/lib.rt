@@ -1,0 +1,1 @@
+// The viewer and the controller agree: definitions and theorems, no code.

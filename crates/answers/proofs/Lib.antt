@@ -1,0 +1,2 @@
+-- Each public call has one answer.
+pub mod Determined

@@ -1,0 +1,2 @@
+-- What it is to have one answer.
+pub mod Answers

@@ -1,0 +1,1 @@
+// Each input has one answer: definitions and theorems, no code.

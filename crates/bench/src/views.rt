@@ -1,0 +1,56 @@
+// What the viewer says of the two rows.
+ghost use Prim.Native.Nat.{_≤_};
+ghost use lib.ListN.{length};
+ghost use Rattle.bench.specs.Rows.{Room, Fits};
+use crate::output;
+use crate::output::Buffer;
+use crate::rows::ROOM;
+use crate::rows::Rows;
+
+// The viewer's number, how many cells its part has, and the cells.
+fn put_view<'a>(
+    out: &mut Buffer,
+    waiting: u16,
+    side0: &'a [u16],
+    side1: &'a [u16],
+    mfm: bool,
+    track: u8,
+    sector: u8,
+) -> u16
+    requires { ⌜ (length (now side0) ≤ 6400) × (length (now side1) ≤ 6400) ⌝ }
+{
+    let number = viewer::number(side0, side1, mfm, track, sector);
+    let part = viewer::view(side0, side1, mfm, track, sector);
+    let first = output::put_numbers(out, waiting, 2, &[number as u16]);
+    let second = output::put_numbers(out, first, 4, &[part.len() as u16]);
+    output::put_numbers(out, second, 4, part)
+}
+
+// Line Q: side 0 is the current row.
+pub fn print(
+    out: &mut Buffer,
+    waiting: u16,
+    rows: Rows,
+    cells: &[u16],
+    mfm: bool,
+    track: u8,
+    sector: u8,
+) -> u16
+    requires { ⌜ Fits rows × Room (now cells) ⌝ }
+{
+    let from0 = rows.at;
+    let to0 = from0 + rows.current;
+    let from1 = ROOM - rows.at;
+    let to1 = from1 + rows.other;
+    let first = output::put(out, waiting, b'Q');
+    let second = put_view(
+        out,
+        first,
+        &cells[from0..to0],
+        &cells[from1..to1],
+        mfm,
+        track,
+        sector,
+    );
+    output::put(out, second, b'\n')
+}

@@ -1,1 +1,0 @@
-// What the controller promises of whole runs: definitions and theorems, no code.

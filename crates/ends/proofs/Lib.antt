@@ -1,0 +1,23 @@
+-- Every command ends, the lemmas that it stands on, and commands that take all of their bound.
+pub mod Left
+pub mod Moments
+pub mod StepsFall
+pub mod ReadsFall
+pub mod TracksFall
+pub mod WritesFall
+pub mod Falls
+pub mod SteadyDr
+pub mod Drains
+pub mod Hunting
+pub mod FiveRounds
+pub mod Begun
+pub mod TypeOne
+pub mod Settled
+pub mod Sectors
+pub mod Addresses
+pub mod Ends
+pub mod SeekScenes
+pub mod SeekActs
+pub mod KeptSeeking
+pub mod SeekTime
+pub mod TrackTime

@@ -1,0 +1,126 @@
+-- Type I commands end: each step takes a step time, and a verify its five rounds. Assumes nothing.
+use mathlib.Core.Path.{_≡_, sym, ap, _∙_, subst}
+use mathlib.Core.Bool.{Bool, true, false, cond}
+use Prim.Native.Nat.{ℕ, _+_, _*_, _≤_, _<_}
+use native.Mathlib.Nat.{zero-add, mul-le-mul-right}
+use native.Mathlib.Omega.{arith}
+use Rattle.common.proofs.Cases.{never}
+use Rattle.codes.specs.Bits.{bitOf, bitV}
+use Rattle.codes.specs.Times.{settleTimeOf}
+use Rattle.order.specs.Orders.{kindOf, jobOf, orderOf}
+use Rattle.order.specs.declared.Command.{Command}
+use Rattle.order.specs.declared.Command.the-variants.{Restore, Seek}
+use Rattle.order.specs.declared.Job.the-variants as job
+use Rattle.order.specs.declared.Kind.{Kind}
+use Rattle.order.specs.declared.Kind.the-variants.{Seeks, Steps}
+use Rattle.activity.specs.declared.Activity.{Activity}
+use Rattle.chip.specs.declared.Regs.{Regs}
+use Rattle.accepting.specs.Accepting.{endsAtOnce, beginRegs, beginActivity}
+use Rattle.wd.specs.declared.Machine.{Machine}
+use Rattle.wd.specs.Loads.{begunOf}
+use Rattle.hosts.specs.Hosts.{Host, Desk, servedAt, at, Alone}
+use Rattle.hosts.specs.Scenes.{Scene, loaded}
+use Rattle.hosts.proofs.Views.{View, viewOf}
+use Rattle.hosts.proofs.Accepted.{above}
+use Rattle.ends.specs.Ends.{leavesDr, Asked, apart, stepping, fiveRounds, verifying}
+use Rattle.ends.proofs.Left.{leftOf, verifyLeft, Counted, seeks}
+use Rattle.ends.proofs.SteadyDr.{calls-steady}
+use Rattle.ends.proofs.Drains.{Over, Steady, drains-from}
+use Rattle.ends.proofs.Begun.{begunBy, started, begun-low, led}
+
+module _ {s : Scene} {command : Command} (asked : Asked s command) where
+  abbrev h : Host
+  h = s .host
+
+  abbrev d : Desk
+  d = loaded s
+
+  abbrev begun : Machine
+  begun = begunBy s command
+
+  abbrev begunView : View
+  begunView = viewOf (record { machine = begun; row = s .row })
+
+  begun-here : viewOf (at h d 0) ≡ begunView
+  unfolding at
+  begun-here = ap (λ (m : Machine). viewOf (record { machine = m; row = s .row })) (started asked)
+
+  -- V, by the ring and by the row
+  verify-most : verifyLeft (begun .order) (begun .mfm) (begun .ring .length) ≤ verifying s
+  unfolding begunOf orderOf
+  verify-most = by (bitOf (s .byte) bitV)
+    where
+      by : (b : Bool)
+          → cond b (settleTimeOf (s .machine .mfm) + 5 * s .machine .ring .length) 0
+          ≤ cond b (settleTimeOf (s .machine .mfm) + fiveRounds s) 0
+      by true = omega (arith, asked .whole)
+      by false = omega arith
+
+  abbrev begins : Kind → Activity
+  begins kind = beginActivity (endsAtOnce command (s .lines)) (s .machine .mfm) (s .byte) kind
+
+  dr-here : at h d 0 .machine .regs .dr ≡ begun .regs .dr
+  unfolding at
+  dr-here = ap (λ (m : Machine). m .regs .dr) (started asked)
+
+  typed-over :
+      (n : ℕ) (kind : Kind)
+      → kindOf command ≡ kind
+      → Counted (begun .order) (begins kind)
+      → (seeks (begins kind) ≡ true → Steady h d)
+      → leftOf (begun .order) (begun .mfm) (begun .regs .dr) (begun .ring) (begun .regs .tr) (begins kind) ≤ n
+      → Over h d 0 n
+  unfolding begunOf
+  typed-over n kind e counted steady enough =
+      subst (Over h d 0) (zero-add n)
+      (drains-from h d (led asked) (begun .regs .dr) n 0 begunView begun-here (asked .whole) (asked .low)
+      (subst (λ (k : Kind). Counted (begun .order) (begins k)) (sym e) counted)
+      (λ on. (
+        steady (ap (λ (k : Kind). seeks (begins k)) (sym e) ∙ on),
+        dr-here,
+        begun-low asked .0,
+      ))
+      (subst
+      (λ (k : Kind). leftOf (begun .order) (begun .mfm) (begun .regs .dr) (begun .ring) (begun .regs .tr) (begins k) ≤ n)
+      (sym e) enough))
+
+  pub seeks-over :
+      kindOf command ≡ Seeks
+      → jobOf command ≡ job.Verify
+      → Steady h d
+      → Over h d 0 (1 + apart (begun .regs .tr) (begun .regs .dr) * stepping s + verifying s)
+  unfolding begunOf orderOf beginActivity leftOf Counted
+  seeks-over kind verifies steady = typed-over _ Seeks kind verifies (λ on. steady) (omega (arith, verify-most))
+
+  pub steps-over : kindOf command ≡ Steps → jobOf command ≡ job.Verify → Over h d 0 (1 + stepping s + verifying s)
+  unfolding begunOf orderOf beginActivity leftOf Counted seeks
+  steps-over kind verifies = typed-over _ Steps kind verifies (λ on. never (cc)) (omega (arith, verify-most))
+
+-- a host that loads no DR
+pub steady-by : (s : Scene) → Alone (s .host) (loaded s) → ((n : ℕ) → leavesDr (s .host .calls n) ≡ true)
+    → Steady (s .host) (loaded s)
+unfolding servedAt
+steady-by s alone leaves n =
+    calls-steady (at (s .host) (loaded s) n .machine) (s .host .calls n) (alone n) (leaves n)
+
+-- ---- how many steps
+
+apart-byte : (a b : ℕ) → a < 256 → b < 256 → apart a b ≤ 255
+unfolding apart
+apart-byte a b low high = omega arith
+
+-- "Restore sets TR 255, DR 0": 255 steps at most
+pub restore-most : (s : Scene) (asked : Asked s Restore)
+    → apart (begunBy s Restore .regs .tr) (begunBy s Restore .regs .dr) * stepping s ≤ 255 * stepping s
+restore-most s asked =
+    let low = begun-low asked in
+    mul-le-mul-right (stepping s) (apart-byte _ _ (low .0) (low .1))
+
+pub seek-regs : (s : Scene) (asked : Asked s Seek) → begunBy s Seek .regs ≡ s .machine .regs
+unfolding begunOf beginRegs
+seek-regs s asked = rw (above (s .byte) Seek (asked .decodes) (λ e. never (cc)))
+
+pub seek-most : (s : Scene) (asked : Asked s Seek)
+    → apart (begunBy s Seek .regs .tr) (begunBy s Seek .regs .dr) * stepping s
+    ≡ apart (s .machine .regs .tr) (s .machine .regs .dr) * stepping s
+seek-most s asked = ap (λ (r : Regs). apart (r .tr) (r .dr) * stepping s) (seek-regs s asked)

@@ -1,0 +1,2 @@
+-- Every command ends.
+pub mod Ends

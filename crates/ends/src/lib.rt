@@ -1,0 +1,1 @@
+// Every command ends by itself, in time: definitions and theorems, no code.

@@ -1,0 +1,2 @@
+-- Demand 2.
+pub mod Demand2

@@ -1,0 +1,13 @@
+-- Theorems about the calls, and about the machines that grow from power-on by them.
+pub mod Valid
+pub mod Cases
+pub mod AsGiven
+pub mod OneCell
+pub mod Fixed
+pub mod Runs
+pub mod Counts
+pub mod Within
+pub mod StatusBits
+pub mod Samples
+pub mod EmptyTrack
+pub mod Reached

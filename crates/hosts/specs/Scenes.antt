@@ -1,0 +1,36 @@
+-- A command under any host: the load that it begins with, the track, and the IDs that it goes by. Assumes nothing.
+use mathlib.Core.Path.{_≡_}
+use mathlib.Core.Bool.{true, cond}
+use mathlib.Core.List.{List}
+use Prim.Native.Nat.{ℕ}
+use Rattle.scan.specs.declared.Id.{Id}
+use Rattle.codes.specs.Bits.{bitOf, bitS, bitE, bitC}
+use Rattle.codes.specs.Times.{settleTimeOf}
+use Rattle.chip.specs.declared.Lines.{Lines}
+use Rattle.wd.specs.declared.Machine.{Machine}
+use Rattle.wd.specs.Loads.{loadedOf}
+use Rattle.hosts.specs.Hosts.{Host, Desk}
+
+-- A command byte loaded into a machine under some lines, the track that is lent from then on, and what the host does then:
+-- any register calls between byte times, and any lines in all of them.
+pub record Scene : Type 0 where
+  pub machine : Machine
+  pub lines : Lines
+  pub byte : ℕ
+  pub row : List ℕ
+  pub host : Host
+
+-- behind the load
+abbrev pub loaded : Scene → Desk
+loaded s = record { machine = loadedOf (s .machine) (s .lines) 0 (s .byte) .machine; row = s .row }
+
+-- "settle for 469 (FM) or 938 (MFM) byte times if E is 1"
+abbrev pub settling : Scene → ℕ
+settling s = cond (bitOf (s .byte) bitE) (settleTimeOf (s .machine .mfm)) 0
+
+-- "An ID matches if its track is TR and, for Type II, its sector is SR and, with C, its side is S"; "with a good CRC"
+pub record Suits (s : Scene) (id : Id) : Type 0 where
+  pub track : id .track ≡ s .machine .regs .tr
+  pub sector : id .sector ≡ s .machine .regs .sr
+  pub side : bitOf (s .byte) bitC ≡ true → id .side ≡ cond (bitOf (s .byte) bitS) 1 0
+  pub good : id .good ≡ true

@@ -1,0 +1,1 @@
+// Demand 3, in time: definitions and theorems, no code.

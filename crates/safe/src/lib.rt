@@ -1,0 +1,1 @@
+// Demand 1, safe on every input: definitions and theorems, no code.

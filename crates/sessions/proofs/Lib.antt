@@ -1,0 +1,4 @@
+-- Sessions that demand 2 speaks of.
+pub mod Plans
+pub mod Planned
+pub mod Sessions

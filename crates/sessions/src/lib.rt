@@ -1,0 +1,1 @@
+// Sessions that demand 2 speaks of: theorems, no code.
