@@ -28,28 +28,19 @@ pub struct State {
     pub position: u16,
 }
 
-// What a line that worked the controller prints behind its letter.
-pub struct Told {
-    pub answer: Answer,
-    pub state: State,
-}
-
-// What a call gave, and the state of the machine under its drive lines. What the read of the status would change is dropped.
-pub fn with_state(machine: Machine, lines: Lines, answer: Answer) -> Told
-    ensures { λ r. ⌜ r .state ≡ stateOf machine lines ⌝ }
+// The state of a machine under its drive lines. What the read of the status would change is dropped.
+fn state_of(machine: Machine, lines: Lines) -> State
+    ensures { λ r. ⌜ r ≡ stateOf machine lines ⌝ }
 {
     let read = machine.read_register(lines, 0);
     let regs = machine.regs;
     let wires = machine.wires;
     let ring = machine.ring;
-    Told {
-        answer,
-        state: State {
-            status: read.byte,
-            regs,
-            wires,
-            position: ring.position,
-        },
+    State {
+        status: read.byte,
+        regs,
+        wires,
+        position: ring.position,
     }
 }
 
@@ -62,11 +53,12 @@ fn put_state(out: &mut Buffer, waiting: u16, state: State) -> u16 {
         regs.sr as u16,
         regs.dr as u16,
     ];
-    let flags = [wires.drq as u16, wires.intrq as u16];
-    let bar = output::put_all(out, waiting, b" |");
-    let first = output::put_numbers(out, bar, 2, &bytes);
-    let second = output::put_numbers(out, first, 1, &flags);
-    output::put_numbers(out, second, 4, &[state.position])
+    let flags = [wires.drq as u16, wires.intrq as u16, 0, 0];
+    let space = output::put(out, waiting, b' ');
+    let bar = output::put(out, space, b'|');
+    let first = output::put_numbers(out, bar, 2, 4, bytes);
+    let second = output::put_numbers(out, first, 1, 2, flags);
+    output::put_number(out, second, 4, state.position)
 }
 
 fn put_answer(out: &mut Buffer, waiting: u16, answer: Answer) -> u16 {
@@ -75,26 +67,33 @@ fn put_answer(out: &mut Buffer, waiting: u16, answer: Answer) -> u16 {
             return waiting;
         }
         Answer::Number(number) => {
-            return output::put_numbers(out, waiting, 2, &[number as u16]);
+            return output::put_number(out, waiting, 2, number as u16);
         }
         Answer::Byte(number, byte) => {
-            return output::put_numbers(out, waiting, 2, &[number as u16, byte as u16]);
+            return output::put_numbers(out, waiting, 2, 2, [number as u16, byte as u16, 0, 0]);
         }
         Answer::Run(number, tally) => {
-            let behind = output::put_numbers(out, waiting, 2, &[number as u16]);
+            let behind = output::put_number(out, waiting, 2, number as u16);
             return output::put_numbers(
                 out,
                 behind,
                 4,
-                &[tally.passed, tally.inward, tally.outward],
+                3,
+                [tally.passed, tally.inward, tally.outward, 0],
             );
         }
     }
 }
 
-pub fn print(out: &mut Buffer, waiting: u16, letter: u8, told: Told) -> u16 {
-    let answer = told.answer;
-    let state = told.state;
+pub fn print(
+    out: &mut Buffer,
+    waiting: u16,
+    letter: u8,
+    answer: Answer,
+    machine: Machine,
+    lines: Lines,
+) -> u16 {
+    let state = state_of(machine, lines);
     let first = output::put(out, waiting, letter);
     let second = put_answer(out, first, answer);
     let third = put_state(out, second, state);

@@ -3,7 +3,6 @@ ghost use mathlib.Core.Path.{_≡_};
 ghost use Rattle.bench.specs.Numbers.{linesOf, pulseByte};
 ghost use Rattle.bench.specs.Rows.{Room, Fits};
 use crate::answers::Answer;
-use crate::rows::Cells;
 use crate::rows::Rows;
 use chip::Lines;
 use chip::Pulse;
@@ -27,14 +26,6 @@ pub fn lines_of(bits: u8) -> Lines
         protect: bits / 2 % 2 == 1,
         track0: bits / 4 % 2 == 1,
         hlt: bits / 8 % 2 == 1,
-    }
-}
-
-// The drive lines from a line of the script on. Line N sets them.
-pub fn lines_after(lines: Lines, request: Request) -> Lines {
-    match request {
-        Request::SetLines { bits } => lines_of(bits),
-        _ => lines,
     }
 }
 
@@ -118,12 +109,9 @@ fn set_ring(machine: Machine, length: u16, position: u16) -> Answered {
     }
 }
 
-fn carry_out(machine: Machine, lines: Lines, call: Call, rows: Rows, cells: &mut [u16]) -> Answered
-    requires { ⌜ Fits rows × Room (now cells) ⌝ }
-{
+// What is asked of the controller that is there, over a row.
+fn carry_out(machine: Machine, lines: Lines, call: Call, row: &mut [u16]) -> Answered {
     let ring = machine.ring;
-    let at = rows.at;
-    let end = at + rows.current;
     match call {
         Call::Load { register, byte } => {
             return load(machine, lines, register, byte);
@@ -132,10 +120,10 @@ fn carry_out(machine: Machine, lines: Lines, call: Call, rows: Rows, cells: &mut
             return read(machine, lines, register);
         }
         Call::ByteTime => {
-            return byte_time(machine, lines, &mut cells[at..end]);
+            return byte_time(machine, lines, row);
         }
         Call::Run { limit } => {
-            return run(machine, lines, limit, &mut cells[at..end]);
+            return run(machine, lines, limit, row);
         }
         Call::SetPosition { position } => {
             return set_ring(machine, ring.length, position);
@@ -152,16 +140,18 @@ pub fn answer(
     lines: Lines,
     request: Request,
     rows: Rows,
-    cells: &mut Cells,
+    cells: &mut [u16],
 ) -> Answered
-    requires { ⌜ Fits rows ⌝ }
+    requires { ⌜ Fits rows × Room (now cells) ⌝ }
 {
     match request {
         Request::PowerOn { mfm, length } => {
             return power_on(mfm, length);
         }
         Request::Controller(call) => {
-            return carry_out(machine, lines, call, rows, cells);
+            let at = rows.at;
+            let end = at + rows.current;
+            return carry_out(machine, lines, call, &mut cells[at..end]);
         }
         _ => {
             return Answered {

@@ -13,39 +13,53 @@ use input::Source;
 use output::Buffer;
 use rows::Cells;
 
-// Works the whole script, and hands back how many bytes of output wait. A proved loop has to end, and nothing says that
-// the input does: so it ends at a line's number that no script reaches.
-fn work(cells: &mut Cells, buffer: &mut Buffer, out: &mut Buffer) -> u16 {
+// How a script ended: how many bytes of output wait, and the number of the line that could not be carried out, or 0.
+struct Ended {
+    waiting: u16,
+    failed: u64,
+}
+
+// Works the whole script. A proved loop has to end, and nothing says that the input does: so it ends at a line's number that
+// no script reaches.
+fn work(cells: &mut Cells, buffer: &mut Buffer, out: &mut Buffer) -> Ended {
     let mut machine = calls::start();
-    let mut lines = calls::lines_of(0);
     let mut session = sessions::start();
     let mut source = Source::start();
     let mut number = 0u64;
     while number < u64::MAX {
         number += 1;
         let read = input::next_line(source, buffer);
-        let line = read.line;
         source = read.source;
-        let request = script::request_of(line);
-        lines = calls::lines_after(lines, request);
-        let answered = calls::answer(machine, lines, request, session.rows, cells);
+        let request = script::request_of(read.line);
+        let answered = calls::answer(machine, session.lines, request, session.rows, cells);
         machine = answered.machine;
-        let answer = answered.answer;
-        let told = answers::with_state(machine, lines, answer);
-        session = sessions::end_line(session, line, request, told, cells, out);
+        session = sessions::carry_out(session, read.line, request, cells, out);
+        session = sessions::tell(session, read.line, request, answered, out);
         if session.failed {
-            return output::put_error(out, session.waiting, number);
+            return Ended {
+                waiting: session.waiting,
+                failed: number,
+            };
         }
         if source.over {
-            return session.waiting;
+            return Ended {
+                waiting: session.waiting,
+                failed: 0,
+            };
         }
     }
-    session.waiting
+    Ended {
+        waiting: session.waiting,
+        failed: 0,
+    }
 }
 
 fn run(cells: &mut Cells, buffer: &mut Buffer, out: &mut Buffer) {
-    let waiting = work(cells, buffer, out);
-    output::flush(out, waiting);
+    let ended = work(cells, buffer, out);
+    output::flush(out, ended.waiting);
+    if 0 < ended.failed {
+        output::print_error(ended.failed);
+    }
 }
 
 fn main() {

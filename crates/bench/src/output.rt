@@ -1,6 +1,7 @@
 // Standard output, over a buffer that goes out whenever it is full. Every function takes how many bytes wait in it, hands
 // back how many wait then, and never loses one: a u16 counts up to the buffer's last place.
 ghost use Prim.Native.Nat.{_≤_};
+ghost use lib.ListN.{length};
 use libc::STDOUT_FILENO;
 
 // What input and output go through.
@@ -21,43 +22,55 @@ pub fn put(out: &mut Buffer, waiting: u16, byte: u8) -> u16 {
     0
 }
 
-pub fn put_all(out: &mut Buffer, waiting: u16, piece: &[u8]) -> u16 {
-    let mut count = waiting;
-    let mut i = 0;
-    while i < piece.len() {
-        count = put(out, count, piece[i]);
+// A space and the last so many hexadecimal digits of a number.
+pub fn put_number(out: &mut Buffer, waiting: u16, digits: usize, number: u16) -> u16
+    requires { ⌜ digits ≤ 4 ⌝ }
+{
+    let hex = text::hex(number);
+    let mut count = put(out, waiting, b' ');
+    let mut i = 4 - digits;
+    while i < 4 {
+        count = put(out, count, hex[i]);
         i += 1;
     }
     count
 }
 
-// A space and the last so many hexadecimal digits of a number.
-fn put_number(out: &mut Buffer, waiting: u16, digits: usize, number: u16) -> u16
-    requires { ⌜ digits ≤ 4 ⌝ }
-{
-    let hex = text::hex(number);
-    let behind = put(out, waiting, b' ');
-    put_all(out, behind, &hex[4 - digits..])
-}
-
-// Numbers of so many digits each.
-pub fn put_numbers(out: &mut Buffer, waiting: u16, digits: usize, numbers: &[u16]) -> u16
-    requires { ⌜ digits ≤ 4 ⌝ }
+// The first so many of four numbers, of so many digits each.
+pub fn put_numbers(
+    out: &mut Buffer,
+    waiting: u16,
+    digits: usize,
+    size: usize,
+    numbers: [u16; 4],
+) -> u16
+    requires { ⌜ (digits ≤ 4) × (size ≤ 4) ⌝ }
 {
     let mut count = waiting;
     let mut i = 0;
-    while i < numbers.len() {
+    while i < size {
         count = put_number(out, count, digits, numbers[i]);
         i += 1;
     }
     count
 }
 
-// The number of a line that cannot be carried out, in decimal.
-pub fn put_error(out: &mut Buffer, waiting: u16, number: u64) -> u16 {
-    let mut digits = [0u8; 20];
-    let size = io::decimal(number, &mut digits);
-    let waiting = put_all(out, waiting, b"error ");
-    let waiting = put_all(out, waiting, &digits[..size]);
-    put(out, waiting, b'\n')
+// The cells from one place up to another, which end a line.
+pub fn put_cells(out: &mut Buffer, waiting: u16, cells: &[u16], from: usize, to: usize) -> u16
+    requires { ⌜ to ≤ length (now cells) ⌝ }
+{
+    let mut count = waiting;
+    let mut i = from;
+    while i < to {
+        count = put_number(out, count, 4, cells[i]);
+        i += 1;
+    }
+    put(out, count, b'\n')
+}
+
+// The number of a line that cannot be carried out, in decimal. Nothing waits any more.
+pub fn print_error(number: u64) {
+    io::write_all(STDOUT_FILENO, b"error ");
+    io::print_decimal(STDOUT_FILENO, number);
+    io::write_all(STDOUT_FILENO, b"\n");
 }

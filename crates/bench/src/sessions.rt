@@ -1,26 +1,29 @@
-// A session: the rows, and what each line of the script comes to.
+// A session: the rows and the drive lines, and what each line of the script comes to.
 ghost use Prim.Native.Nat.{_≤_};
 ghost use Rattle.bench.specs.Rows.{Fits};
 use crate::answers;
-use crate::answers::Told;
+use crate::calls;
+use crate::calls::Answered;
 use crate::output::Buffer;
 use crate::rows;
 use crate::rows::Cells;
 use crate::rows::Rows;
 use crate::tasks;
 use crate::views;
+use chip::Lines;
 use script::Line;
 use script::Request;
 use script::Task;
 
-// The rows, how many bytes of output wait, and whether the last line could not be carried out.
+// The rows, the drive lines, how many bytes of output wait, and whether the last line could not be carried out.
 pub struct Session {
     pub rows: Rows,
+    pub lines: Lines,
     pub waiting: u16,
     pub failed: bool,
 }
 
-// Before the first line: rows of 2,048 cells.
+// Before the first line: rows of 2,048 cells, and all drive lines off.
 pub fn start() -> Session
     ensures { λ r. ⌜ Fits (r .rows) ⌝ }
 {
@@ -30,30 +33,10 @@ pub fn start() -> Session
             current: 2048,
             other: 2048,
         },
+        lines: calls::lines_of(0),
         waiting: 0,
         failed: false,
     }
-}
-
-// The session goes on behind a line that printed.
-fn go_on(rows: Rows, waiting: u16) -> Session
-    requires { ⌜ Fits rows ⌝ }
-    ensures { λ r. ⌜ Fits (r .rows) ⌝ }
-{
-    Session {
-        rows,
-        waiting,
-        failed: false,
-    }
-}
-
-fn fail(session: Session) -> Session
-    requires { ⌜ Fits (session .rows) ⌝ }
-    ensures { λ r. ⌜ Fits (r .rows) ⌝ }
-{
-    let mut next = session;
-    next.failed = true;
-    next
 }
 
 // A line that works the rows.
@@ -67,67 +50,93 @@ fn work_rows(
     requires { ⌜ Fits (session .rows) × (line .count ≤ 65) ⌝ }
     ensures { λ r. ⌜ Fits (r .rows) ⌝ }
 {
-    let rows = session.rows;
-    let worked = tasks::carry_out(rows, line, task, cells);
-    if worked.failed {
-        return fail(session);
-    }
-    let after = worked.rows;
-    go_on(
-        after,
-        tasks::print(out, session.waiting, line.letter, worked, cells),
-    )
-}
-
-// The rows from a line of the script on, as far as power-on goes: line P blanks both.
-fn powered(rows: Rows, request: Request, cells: &mut Cells) -> Rows
-    requires { ⌜ Fits rows ⌝ }
-    ensures { λ r. ⌜ Fits r ⌝ }
-{
-    match request {
-        Request::PowerOn { mfm, length } => {
-            return rows::blank(rows, length as usize, mfm, cells);
-        }
-        _ => {
-            return rows;
-        }
+    let worked = tasks::carry_out(session.rows, line, task, cells);
+    let rows = worked.rows;
+    let lines = session.lines;
+    Session {
+        rows,
+        lines,
+        waiting: tasks::print(out, session.waiting, line.letter, worked, cells),
+        failed: worked.failed,
     }
 }
 
-// A line ends, and the controller has told what it asked of it. What it asks else is carried out, and it prints.
-pub fn end_line(
+// What a line asks else than of the controller: line P blanks the rows, line N sets the drive lines, and those that work or
+// show the rows print.
+pub fn carry_out(
     session: Session,
     line: Line,
     request: Request,
-    told: Told,
     cells: &mut Cells,
     out: &mut Buffer,
 ) -> Session
     requires { ⌜ Fits (session .rows) × (line .count ≤ 65) ⌝ }
     ensures { λ r. ⌜ Fits (r .rows) ⌝ }
 {
-    let rows = powered(session.rows, request, cells);
+    let mut next = session;
     match request {
-        Request::Nothing => {
-            return session;
+        Request::PowerOn { mfm, length } => {
+            let rows = rows::blank(session.rows, length as usize, mfm, cells);
+            next.rows = rows;
+            return next;
+        }
+        Request::SetLines { bits } => {
+            let lines = calls::lines_of(bits);
+            next.lines = lines;
+            return next;
         }
         Request::Rows(task) => {
             return work_rows(session, line, task, cells, out);
         }
         Request::View { mfm, track, sector } => {
-            return go_on(
-                rows,
-                views::print(out, session.waiting, rows, cells, mfm, track, sector),
+            next.waiting = views::print(
+                out,
+                session.waiting,
+                session.rows,
+                cells,
+                mfm,
+                track,
+                sector,
             );
+            return next;
         }
         Request::Bad => {
-            return fail(session);
+            next.failed = true;
+            return next;
         }
         _ => {
-            return go_on(
-                rows,
-                answers::print(out, session.waiting, line.letter, told),
+            return session;
+        }
+    }
+}
+
+// What the controller says to a line that worked it or its drive lines, and nothing to any other.
+pub fn tell(
+    session: Session,
+    line: Line,
+    request: Request,
+    answered: Answered,
+    out: &mut Buffer,
+) -> Session
+    requires { ⌜ Fits (session .rows) ⌝ }
+    ensures { λ r. ⌜ Fits (r .rows) ⌝ }
+{
+    match request {
+        Request::PowerOn { .. } | Request::SetLines { .. } | Request::Controller(_) => {
+            let answer = answered.answer;
+            let mut next = session;
+            next.waiting = answers::print(
+                out,
+                session.waiting,
+                line.letter,
+                answer,
+                answered.machine,
+                session.lines,
             );
+            return next;
+        }
+        _ => {
+            return session;
         }
     }
 }

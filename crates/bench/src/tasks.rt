@@ -135,14 +135,16 @@ pub fn carry_out(rows: Rows, line: Line, task: Task, cells: &mut Cells) -> Worke
     }
 }
 
-// The letter, the cells that are shown and a newline.
+// The letter, and the cells that are shown; nothing of a line that could not be carried out.
 pub fn print(out: &mut Buffer, waiting: u16, letter: u8, worked: Worked, cells: &[u16]) -> u16
     requires { ⌜ Within worked × Room (now cells) ⌝ }
 {
+    if worked.failed {
+        return waiting;
+    }
     let rows = worked.rows;
     let from = rows.at + worked.from;
     let to = rows.at + worked.to;
     let first = output::put(out, waiting, letter);
-    let second = output::put_numbers(out, first, 4, &cells[from..to]);
-    output::put(out, second, b'\n')
+    output::put_cells(out, first, cells, from, to)
 }

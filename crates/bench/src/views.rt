@@ -7,7 +7,7 @@ use crate::output::Buffer;
 use crate::rows::ROOM;
 use crate::rows::Rows;
 
-// The viewer's number, how many cells its part has, and the cells.
+// The letter, the viewer's number, how many cells its part has, and the cells.
 fn put_view<'a>(
     out: &mut Buffer,
     waiting: u16,
@@ -21,9 +21,10 @@ fn put_view<'a>(
 {
     let number = viewer::number(side0, side1, mfm, track, sector);
     let part = viewer::view(side0, side1, mfm, track, sector);
-    let first = output::put_numbers(out, waiting, 2, &[number as u16]);
-    let second = output::put_numbers(out, first, 4, &[part.len() as u16]);
-    output::put_numbers(out, second, 4, part)
+    let first = output::put(out, waiting, b'Q');
+    let second = output::put_number(out, first, 2, number as u16);
+    let third = output::put_number(out, second, 4, part.len() as u16);
+    output::put_cells(out, third, part, 0, part.len())
 }
 
 // Line Q: side 0 is the current row.
@@ -42,15 +43,13 @@ pub fn print(
     let to0 = from0 + rows.current;
     let from1 = ROOM - rows.at;
     let to1 = from1 + rows.other;
-    let first = output::put(out, waiting, b'Q');
-    let second = put_view(
+    put_view(
         out,
-        first,
+        waiting,
         &cells[from0..to0],
         &cells[from1..to1],
         mfm,
         track,
         sector,
-    );
-    output::put(out, second, b'\n')
+    )
 }

@@ -17,7 +17,7 @@ use Rattle.activity.specs.declared.Activity.{Activity}
 use Rattle.activity.specs.declared.Activity.the-variants.{Idle, Seek, Pulse, Stop, Settle, Search, Window, Data, Hunt, Address, Await, TrackRead, Preamble, Put, Format, FormatCrc}
 use Rattle.activity.specs.declared.Deed.{Deed}
 use Rattle.activity.specs.declared.Deed.the-variants.{Deliver, Take}
-use Rattle.reading.specs.Reading.{readOf}
+use Rattle.reading.specs.Reading.{readOf, trackReadOf}
 use Rattle.activity.specs.Acts.{takenOf}
 use Rattle.writing.specs.Writing.{putOf}
 use Rattle.formatting.specs.Formatting.{untilLast, laidCell, laidCrc, formatOf}
@@ -30,12 +30,12 @@ use Rattle.chip.specs.declared.Pulse.the-variants as pulse
 use Rattle.deeds.specs.Deeds.{regsAfter, drqAfter, withLost, flagsAfter, headAfter, pulseOf}
 use Rattle.handing.specs.declared.Handing.{Handing}
 use Rattle.handing.specs.declared.Handing.the-variants.{Nothing, Over}
-use Rattle.handing.specs.Handing.{readOver, writtenOver, formattedOver, handingOf}
+use Rattle.handing.specs.Handing.{readOver, writtenOver, formattedOver, trackOver, handingOf}
 
 -- ---- the arm `_` of the code
 
 abbrev keeping : List ℕ
-keeping = 0 ∷ 1 ∷ 2 ∷ 3 ∷ 4 ∷ 5 ∷ 6 ∷ 8 ∷ 9 ∷ 10 ∷ 11 ∷ 12 ∷ 15 ∷ []
+keeping = 0 ∷ 1 ∷ 2 ∷ 3 ∷ 4 ∷ 5 ∷ 6 ∷ 8 ∷ 9 ∷ 10 ∷ 12 ∷ 15 ∷ []
 
 pub keeps : (s : Seen) (a : Activity) → Among keeping a → Nothing ≡ handingOf s a
 unfolding handingOf
@@ -50,7 +50,7 @@ keeps s (Data left crc deleted) h = absurd (miss keeping 7 tt h)
 keeps s (Hunt pulses run) h = refl
 keeps s (Address passed crc track) h = refl
 keeps s Await h = refl
-keeps s TrackRead h = refl
+keeps s TrackRead h = absurd (miss keeping 11 tt h)
 keeps s (Preamble left passed) h = refl
 keeps s (Put left crc) h = absurd (miss keeping 13 tt h)
 keeps s (Format crc) h = absurd (miss keeping 14 tt h)
@@ -139,6 +139,12 @@ formatted-says o s crc =
     (rw (h .0, h .1) refl)
     refl)
 
+track-says : (o : Order) (s : Seen) → Says o s TrackRead (trackOver s)
+unfolding trackOver actOf settledOf enteredOf reactedOf trackReadOf busyIn
+track-says o s =
+    by-cond (Says o s TrackRead) (s .last) (λ e. tt)
+    (λ e. delivers o s TrackRead TrackRead (byteOf (s .cell)) (s .cell) (rw e refl) refl)
+
 pub says : (o : Order) (s : Seen) (a : Activity) → Says o s a (handingOf s a)
 unfolding handingOf
 says o s Idle = tt
@@ -152,7 +158,7 @@ says o s (Data left crc deleted) = read-says o s left crc deleted
 says o s (Hunt pulses run) = tt
 says o s (Address passed crc track) = tt
 says o s Await = tt
-says o s TrackRead = tt
+says o s TrackRead = track-says o s
 says o s (Preamble left passed) = tt
 says o s (Put left crc) = written-says o s left crc
 says o s (Format crc) = formatted-says o s crc

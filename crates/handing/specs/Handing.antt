@@ -30,6 +30,10 @@ formattedOver s crc =
     cond (eqb (takenOf s) 0xF7 || s .last) Nothing
     (Over (Format (laidCrc (s .mfm) crc (takenOf s))) (s .dr) (laidCell (s .mfm) (takenOf s)))
 
+-- a cell of a Read Track, not the last
+unfoldable pub trackOver : Seen → Handing
+trackOver s = cond (s .last) Nothing (Over TrackRead (byteOf (s .cell)) (s .cell))
+
 unfoldable pub handingOf : Seen → Activity → Handing
 handingOf s Idle = Nothing
 handingOf s (Seek left) = Nothing
@@ -42,7 +46,7 @@ handingOf s (Data left crc deleted) = readOver s left crc deleted
 handingOf s (Hunt pulses run) = Nothing
 handingOf s (Address passed crc track) = Nothing
 handingOf s Await = Nothing
-handingOf s TrackRead = Nothing
+handingOf s TrackRead = trackOver s
 handingOf s (Preamble left passed) = Nothing
 handingOf s (Put left crc) = writtenOver s left crc
 handingOf s (Format crc) = formattedOver s crc

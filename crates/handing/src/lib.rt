@@ -1,7 +1,7 @@
 // A byte that goes over between host and track in the middle of a transfer. DRQ is on behind such a byte time, so it ends a run:
 // a run that begins with one is no more than that, and is made for a third of what a byte time costs else.
 ghost use mathlib.Core.Path.{_≡_};
-ghost use Rattle.handing.specs.Handing.{readOver, writtenOver, formattedOver, handingOf};
+ghost use Rattle.handing.specs.Handing.{readOver, writtenOver, formattedOver, trackOver, handingOf};
 use activity::Activity;
 use activity::Seen;
 
@@ -56,6 +56,20 @@ fn format(s: Seen, crc: u16) -> Handing
     }
 }
 
+// A cell of a Read Track goes to DR. The last one ends it.
+fn read_track(s: Seen) -> Handing
+    ensures { λ r. ⌜ r ≡ trackOver s ⌝ }
+{
+    if s.last {
+        return Handing::Nothing;
+    }
+    Handing::Over {
+        next: Activity::TrackRead,
+        dr: (s.cell % 256) as u8,
+        cell: s.cell,
+    }
+}
+
 // What goes over in this byte time.
 pub fn goes_over(s: Seen, activity: Activity) -> Handing
     ensures { λ r. ⌜ r ≡ handingOf s activity ⌝ }
@@ -64,6 +78,7 @@ pub fn goes_over(s: Seen, activity: Activity) -> Handing
         Activity::Data(left, crc, deleted) => read(s, left, crc, deleted),
         Activity::Put(left, crc) => write(s, left, crc),
         Activity::Format(crc) => format(s, crc),
+        Activity::TrackRead => read_track(s),
         _ => Handing::Nothing,
     }
 }

@@ -8,6 +8,8 @@ use lib.Dec.{ltb, leb, eqb}
 use lib.ListN.{length, getD}
 use borrow.Author.Tests.{ltb-true, ltb-false}
 use Rattle.common.proofs.Cases.{by-cond}
+use Rattle.scan.specs.declared.Scan.{Scan}
+use Rattle.scan.specs.declared.Scan.the-variants.{Gap}
 use Rattle.order.specs.declared.Order.{Order}
 use Rattle.activity.specs.Acts.{pass}
 use Rattle.activity.specs.declared.Seen.{Seen}
@@ -17,7 +19,7 @@ use Rattle.activity.specs.declared.Deed.the-variants.{Nothing}
 use Rattle.act.specs.Turns.{actOf}
 use Rattle.chip.specs.declared.Ring.{Ring}
 use Rattle.stretch.specs.declared.Reach.{Reach}
-use Rattle.stretch.specs.Stretches.{leastOf, emptyGap, searchReach, reachOf, laterOf, clearFrom, reachIn, aheadOf}
+use Rattle.stretch.specs.Stretches.{leastOf, waitReach, emptyGap, searchReach, reachOf, laterOf, clearFrom, reachIn, aheadOf}
 use Rattle.stretch.proofs.Opening.{opens}
 use Rattle.stretch.proofs.Stretching.{act-still}
 
@@ -38,22 +40,30 @@ record Modest (limit : ℕ) (r : Reach) : Type 0 where
 nowhere-modest : (limit : ℕ) → Modest limit (record { most = 0; below = 0 })
 nowhere-modest limit = record { most = omega arith; below = omega arith }
 
-reach-modest : (limit : ℕ) (a : Activity) → Modest limit (reachOf limit a)
-unfolding reachOf searchReach
-reach-modest limit Idle = record { most = omega arith; below = omega arith }
-reach-modest limit (Settle left) = record { most = least-both left limit .1; below = omega arith }
-reach-modest limit (Search pulses scan) =
+wait-modest : (limit left : ℕ) → Modest limit (waitReach limit left)
+unfolding waitReach
+wait-modest limit left = record { most = least-both left limit .1; below = omega arith }
+
+search-modest : (limit pulses : ℕ) (scan : Scan) → Modest limit (searchReach limit pulses scan)
+unfolding searchReach
+search-modest limit pulses scan =
     by-cond (Modest limit) (ltb pulses 5 && emptyGap scan)
     (λ e. record { most = omega arith; below = omega arith })
     (λ e. nowhere-modest limit)
-reach-modest limit (Seek left) = nowhere-modest limit
+
+reach-modest : (limit : ℕ) (a : Activity) → Modest limit (reachOf limit a)
+unfolding reachOf
+reach-modest limit Idle = record { most = omega arith; below = omega arith }
+reach-modest limit (Seek left) = wait-modest limit (left - 1)
+reach-modest limit (Stop left) = wait-modest limit (left - 1)
+reach-modest limit (Settle left) = wait-modest limit left
+reach-modest limit Await = record { most = omega arith; below = omega arith }
+reach-modest limit (Search pulses scan) = search-modest limit pulses scan
+reach-modest limit (Hunt pulses run) = search-modest limit pulses (Gap run)
 reach-modest limit Pulse = nowhere-modest limit
-reach-modest limit (Stop left) = nowhere-modest limit
 reach-modest limit (Window left passed run) = nowhere-modest limit
 reach-modest limit (Data left crc deleted) = nowhere-modest limit
-reach-modest limit (Hunt pulses run) = nowhere-modest limit
 reach-modest limit (Address passed crc track) = nowhere-modest limit
-reach-modest limit Await = nowhere-modest limit
 reach-modest limit TrackRead = nowhere-modest limit
 reach-modest limit (Preamble left passed) = nowhere-modest limit
 reach-modest limit (Put left crc) = nowhere-modest limit

@@ -1,10 +1,10 @@
 -- A byte time of a stretch does nothing: the activity is one byte time later, the cell stays, and there is no deed. This ties
 -- stretches to what a byte time is. Assumes nothing.
 use mathlib.Core.Path.{_≡_, refl, ap}
-use mathlib.Core.Bool.{Bool, true, false, _&&_}
+use mathlib.Core.Bool.{Bool, true, false, cond, _&&_}
 use Prim.Native.Nat.{ℕ, suc, _-_, _<_}
 use native.Mathlib.Omega.{arith}
-use lib.Dec.{ltb}
+use lib.Dec.{ltb, leb}
 use borrow.Author.Tests.{ltb-true, ltb-false, eqb-true, lt-leb, ne-eqb}
 use Rattle.common.proofs.Cases.{by-cond, both, never}
 use Rattle.scan.specs.Ids.{runIn, grownOf, lookedOf, heardOf}
@@ -15,14 +15,17 @@ use Rattle.scan.proofs.IdComplete.{plain-gap}
 use Rattle.order.specs.declared.Order.{Order}
 use Rattle.activity.specs.Acts.{pass}
 use Rattle.activity.specs.Limits.{busyIn}
+use Rattle.activity.specs.declared.Act.{Act}
 use Rattle.activity.specs.declared.Seen.{Seen}
 use Rattle.activity.specs.declared.Activity.{Activity}
 use Rattle.activity.specs.declared.Activity.the-variants.{Idle, Seek, Pulse, Stop, Settle, Search, Window, Data, Hunt, Address, Await, TrackRead, Preamble, Put, Format, FormatCrc}
 use Rattle.activity.specs.declared.Deed.the-variants.{Nothing}
+use Rattle.stepping.specs.Stepping.{stopOf, decidedOf, soughtOf, stoppedOf}
 use Rattle.search.specs.Search.{pulsesOf, hearsOf, searchedOf}
-use Rattle.act.specs.Turns.{settledOf, enteredOf, settlingOf, reactedOf, actOf}
+use Rattle.reading.specs.Reading.{huntedOf, huntOf}
+use Rattle.act.specs.Turns.{settledOf, enteredOf, settlingOf, awaitingOf, reactedOf, actOf}
 use Rattle.stretch.specs.declared.Reach.{Reach}
-use Rattle.stretch.specs.Stretches.{leastOf, emptyGap, searchReach, reachOf, laterOf}
+use Rattle.stretch.specs.Stretches.{leastOf, waitReach, emptyGap, searchReach, reachOf, laterOf}
 
 least-left : (a b : ℕ) (k : ℕ) → k < leastOf a b → k < a
 unfolding leastOf
@@ -40,24 +43,45 @@ unfolding heardOf runIn lookedOf grownOf
 heard-gap mfm cell h = rw (plain-gap mfm cell h)
 
 module _ (o : Order) (s : Seen) (none : s .index ≡ false) where
-  searched-still : (pulses : ℕ) (scan : Scan) → (ltb pulses 5 && emptyGap scan) ≡ true → s .cell < 256
-      → searchedOf o s pulses scan ≡ pass s (Search pulses scan) Nothing
-  unfolding searchedOf pulsesOf hearsOf
-  searched-still pulses scan e plain =
-      let h = both (ltb pulses 5) (emptyGap scan) e in
-      rw (empty scan (h .1), none, lt-leb 5 pulses (ltb-true pulses 5 (h .0))) (rw (heard-gap (s .mfm) (s .cell) plain))
-
-  search-still : (limit k pulses : ℕ) (scan : Scan)
+  -- what holds of an unflagged cell that a scanner meets with nothing in hand, before the fifth pulse, holds in a stretch
+  in-gap : (P : Type 0) (limit k pulses : ℕ) (scan : Scan)
+      → (pulses < 5 → scan ≡ Gap 0 → s .cell < 256 → P)
       → k < searchReach limit pulses scan .most
       → s .cell < searchReach limit pulses scan .below
-      → searchedOf o s pulses scan ≡ pass s (Search pulses scan) Nothing
+      → P
   unfolding searchReach
-  search-still limit k pulses scan =
-      by-cond
-      (λ (r : Reach). k < r .most → s .cell < r .below → searchedOf o s pulses scan ≡ pass s (Search pulses scan) Nothing)
-      (ltb pulses 5 && emptyGap scan)
-      (λ e h plain. searched-still pulses scan e plain)
+  in-gap P limit k pulses scan f =
+      by-cond (λ (r : Reach). k < r .most → s .cell < r .below → P) (ltb pulses 5 && emptyGap scan)
+      (λ e h plain.
+      let b = both (ltb pulses 5) (emptyGap scan) e in f (ltb-true pulses 5 (b .0)) (empty scan (b .1)) plain)
       (λ e h plain. absurd (omega arith))
+
+  search-still : (pulses : ℕ) (scan : Scan) → pulses < 5 → scan ≡ Gap 0 → s .cell < 256
+      → searchedOf o s pulses scan ≡ pass s (Search pulses scan) Nothing
+  unfolding searchedOf pulsesOf hearsOf
+  search-still pulses scan few gap plain =
+      rw (gap, none, lt-leb 5 pulses few) (rw (heard-gap (s .mfm) (s .cell) plain))
+
+  hunt-still : (pulses run : ℕ) → pulses < 5 → Gap run ≡ Gap 0 → s .cell < 256
+      → huntOf s pulses run ≡ pass s (Hunt pulses run) Nothing
+  unfolding huntOf huntedOf pulsesOf
+  hunt-still pulses run few gap plain =
+      let zero : run ≡ 0 = cc in
+      rw (zero, none, lt-leb 5 pulses few) (rw (plain-gap (s .mfm) (s .cell) plain) refl)
+
+  wait-left : (limit left k : ℕ) → k < waitReach limit left .most → k < left
+  unfolding waitReach
+  wait-left limit left k h = least-left left limit k h
+
+  -- a wait for a byte time that decides
+  decides-later : (wait : ℕ → Activity) (decided : Act) (left k : ℕ) → k < left - 1
+      → cond (leb (left - k) 1) decided (pass s (wait (left - k - 1)) Nothing) ≡ pass s (wait (left - suc k)) Nothing
+  decides-later wait decided left k h =
+      let less : left - k - 1 ≡ left - suc k = omega arith in rw (lt-leb (left - k) 1 (omega arith), less) refl
+
+  await-still : actOf o s Await ≡ pass s Await Nothing
+  unfolding actOf settledOf enteredOf reactedOf awaitingOf
+  await-still = rw none refl
 
   settle-still : (left k : ℕ) → k < left → actOf o s (Settle (left - k)) ≡ pass s (Settle (left - suc k)) Nothing
   unfolding actOf settledOf enteredOf reactedOf settlingOf
@@ -68,18 +92,20 @@ module _ (o : Order) (s : Seen) (none : s .index ≡ false) where
 
   pub act-still : (a : Activity) (limit k : ℕ) → k < reachOf limit a .most → s .cell < reachOf limit a .below
       → actOf o s (laterOf k a) ≡ pass s (laterOf (suc k) a) Nothing
-  unfolding actOf settledOf enteredOf reactedOf reachOf laterOf
+  unfolding actOf settledOf enteredOf reactedOf soughtOf stoppedOf reachOf laterOf
   act-still Idle limit k h below = refl
-  act-still (Settle left) limit k h below = settle-still left k (least-left left limit k h)
-  act-still (Search pulses scan) limit k h below = search-still limit k pulses scan h below
-  act-still (Seek left) limit k h below = absurd (omega arith)
+  act-still (Seek left) limit k h below =
+      decides-later Seek (decidedOf o s) left k (wait-left limit (left - 1) k h)
+  act-still (Stop left) limit k h below =
+      decides-later Stop (stopOf o s false) left k (wait-left limit (left - 1) k h)
+  act-still (Settle left) limit k h below = settle-still left k (wait-left limit left k h)
+  act-still Await limit k h below = await-still
+  act-still (Search pulses scan) limit k h below = in-gap _ limit k pulses scan (search-still pulses scan) h below
+  act-still (Hunt pulses run) limit k h below = in-gap _ limit k pulses (Gap run) (hunt-still pulses run) h below
   act-still Pulse limit k h below = absurd (omega arith)
-  act-still (Stop left) limit k h below = absurd (omega arith)
   act-still (Window left passed run) limit k h below = absurd (omega arith)
   act-still (Data left crc deleted) limit k h below = absurd (omega arith)
-  act-still (Hunt pulses run) limit k h below = absurd (omega arith)
   act-still (Address passed crc track) limit k h below = absurd (omega arith)
-  act-still Await limit k h below = absurd (omega arith)
   act-still TrackRead limit k h below = absurd (omega arith)
   act-still (Preamble left passed) limit k h below = absurd (omega arith)
   act-still (Put left crc) limit k h below = absurd (omega arith)
@@ -110,9 +136,9 @@ busy-later k (FormatCrc crc) = refl
 pub later-none : (a : Activity) → laterOf 0 a ≡ a
 unfolding laterOf
 later-none Idle = refl
-later-none (Seek left) = refl
+later-none (Seek left) = ap Seek (omega arith)
 later-none Pulse = refl
-later-none (Stop left) = refl
+later-none (Stop left) = ap Stop (omega arith)
 later-none (Settle left) = ap Settle (omega arith)
 later-none (Search pulses scan) = refl
 later-none (Window left passed run) = refl

@@ -19,41 +19,45 @@ leastOf a b = cond (ltb a b) a b
 abbrev pub nowhere : Reach
 nowhere = record { most = 0; below = 0 }
 
+-- a wait of which so many byte times are left in which nothing happens, over any cell that is not refused
+unfoldable pub waitReach : ℕ → ℕ → Reach
+waitReach limit left = record { most = leastOf left limit; below = 512 }
+
 -- the scanner has nothing in hand
 unfoldable pub emptyGap : Scan → Bool
 emptyGap (Gap run) = eqb run 0
 emptyGap (Field part) = false
 
--- a search passes the unflagged cells of a gap
+-- a search passes the unflagged cells of a gap, for an ID as for an ID's mark
 unfoldable pub searchReach : ℕ → ℕ → Scan → Reach
 searchReach limit pulses scan = cond (ltb pulses 5 && emptyGap scan) (record { most = limit; below = 256 }) nowhere
 
--- how far nothing happens, up to a limit: idle, and settling for as long as byte times are left, over any cell that is not
--- refused
+-- how far nothing happens, up to a limit: idle, in front of the first pulse of a track command, settling for as long as byte
+-- times are left, and between two steps up to the byte time that decides
 unfoldable pub reachOf : ℕ → Activity → Reach
 reachOf limit Idle = record { most = limit; below = 512 }
-reachOf limit (Seek left) = nowhere
+reachOf limit (Seek left) = waitReach limit (left - 1)
 reachOf limit Pulse = nowhere
-reachOf limit (Stop left) = nowhere
-reachOf limit (Settle left) = record { most = leastOf left limit; below = 512 }
+reachOf limit (Stop left) = waitReach limit (left - 1)
+reachOf limit (Settle left) = waitReach limit left
 reachOf limit (Search pulses scan) = searchReach limit pulses scan
 reachOf limit (Window left passed run) = nowhere
 reachOf limit (Data left crc deleted) = nowhere
-reachOf limit (Hunt pulses run) = nowhere
+reachOf limit (Hunt pulses run) = searchReach limit pulses (Gap run)
 reachOf limit (Address passed crc track) = nowhere
-reachOf limit Await = nowhere
+reachOf limit Await = record { most = limit; below = 512 }
 reachOf limit TrackRead = nowhere
 reachOf limit (Preamble left passed) = nowhere
 reachOf limit (Put left crc) = nowhere
 reachOf limit (Format crc) = nowhere
 reachOf limit (FormatCrc crc) = nowhere
 
--- the activity behind so many such byte times: settling, so many fewer are left
+-- the activity behind so many such byte times: of a wait so many fewer are left
 unfoldable pub laterOf : ℕ → Activity → Activity
 laterOf passed Idle = Idle
-laterOf passed (Seek left) = Seek left
+laterOf passed (Seek left) = Seek (left - passed)
 laterOf passed Pulse = Pulse
-laterOf passed (Stop left) = Stop left
+laterOf passed (Stop left) = Stop (left - passed)
 laterOf passed (Settle left) = Settle (left - passed)
 laterOf passed (Search pulses scan) = Search pulses scan
 laterOf passed (Window left gone run) = Window left gone run

@@ -3,7 +3,7 @@
 ghost use mathlib.Core.Path.{_≡_};
 ghost use Prim.Native.Nat.{_+_, _-_, _≤_};
 ghost use lib.ListN.{length};
-ghost use Rattle.stretch.specs.Stretches.{leastOf, emptyGap, searchReach, reachOf, laterOf, clearFrom, aheadOf};
+ghost use Rattle.stretch.specs.Stretches.{leastOf, waitReach, emptyGap, searchReach, reachOf, laterOf, clearFrom, aheadOf};
 use activity::Activity;
 use chip::Ring;
 use scan::Scan;
@@ -19,6 +19,24 @@ fn least(a: u16, b: u16) -> u16
     ensures { λ r. ⌜ (r ≤ a) × (r ≤ b) ⌝ }
 {
     if a < b { a } else { b }
+}
+
+// What is left of a wait behind so many byte times.
+fn shorter(left: u16, passed: u16) -> u16
+    ensures { λ r. ⌜ r ≡ left - passed ⌝ }
+{
+    if passed < left { left - passed } else { 0 }
+}
+
+// So many byte times of a wait are left in which nothing happens.
+fn wait_reach(limit: u16, left: u16) -> Reach
+    ensures { λ r. ⌜ r ≡ waitReach limit left ⌝ }
+    ensures { λ r. ⌜ r .most ≤ limit ⌝ }
+{
+    Reach {
+        most: least(left, limit),
+        below: 512,
+    }
 }
 
 fn empty_gap(scan: Scan) -> bool
@@ -54,11 +72,15 @@ fn reaches(limit: u16, activity: Activity) -> Reach
             most: limit,
             below: 512,
         },
-        Activity::Settle(left) => Reach {
-            most: least(left, limit),
+        Activity::Seek(left) => wait_reach(limit, shorter(left, 1)),
+        Activity::Stop(left) => wait_reach(limit, shorter(left, 1)),
+        Activity::Settle(left) => wait_reach(limit, left),
+        Activity::Await => Reach {
+            most: limit,
             below: 512,
         },
         Activity::Search(pulses, scan) => search_reach(limit, pulses, scan),
+        Activity::Hunt(pulses, run) => search_reach(limit, pulses, Scan::Gap(run)),
         _ => Reach { most: 0, below: 0 },
     }
 }
@@ -68,13 +90,9 @@ pub fn later(passed: u16, activity: Activity) -> Activity
     ensures { λ r. ⌜ r ≡ laterOf passed activity ⌝ }
 {
     match activity {
-        Activity::Settle(left) => {
-            if passed < left {
-                Activity::Settle(left - passed)
-            } else {
-                Activity::Settle(0)
-            }
-        }
+        Activity::Seek(left) => Activity::Seek(shorter(left, passed)),
+        Activity::Stop(left) => Activity::Stop(shorter(left, passed)),
+        Activity::Settle(left) => Activity::Settle(shorter(left, passed)),
         _ => activity,
     }
 }

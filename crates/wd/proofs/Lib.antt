@@ -3,4 +3,3 @@ pub mod Valid
 pub mod Runs
 pub mod Stretches
 pub mod Handed
-pub mod Once

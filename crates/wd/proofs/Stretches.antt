@@ -29,10 +29,10 @@ use Rattle.wd.specs.declared.Machine.{Machine}
 use Rattle.wd.specs.declared.Passed.{Passed}
 use Rattle.wd.specs.declared.Ran.{Ran}
 use Rattle.wd.specs.Turns.{appliedOf, seesOf, doesOf, turnedOf}
-use Rattle.wd.specs.Rows.{rowRefusal, under, refusedAt, doneBy, passedOf, rowOf, tallied, countedOf, ranTo, emptyRun, stopsAt, Run, onward, runsOn, runFrom}
+use Rattle.wd.specs.Rows.{rowRefusal, under, refusedAt, doneBy, passedOf, rowOf, tallied, countedOf, ranTo, emptyRun, stopsAt, Run, onward, runsOn}
 use Rattle.wd.specs.Stretches.{stretchedOf, firstOf, ranOn}
 use Rattle.wd.proofs.Valid.{Held, valid-ring, open-row, pass-open}
-use Rattle.wd.proofs.Runs.{at, open-run, Along, starts}
+use Rattle.wd.proofs.Runs.{at, no-more, Along, starts}
 
 -- ---- one byte time
 
@@ -443,8 +443,16 @@ module _ (l : Lines) (m : Machine) (limit : ℕ) (row : List ℕ) (opens : rowRe
       (ran′ : Ran) (row′ : List ℕ)
       → ran′ ≡ ranOn ran k (l .ready)
       → row′ ≡ row
-      → runFrom m l limit row ≡ runsOn (limit - k) l (at ran′ row′)
+      → runsOn limit l (at (emptyRun 0 m) row) ≡ runsOn (limit - k) l (at ran′ row′)
   first-run ran′ row′ h same =
-      open-run m l limit row opens
-      ∙ ap (λ (r : Ran). runsOn limit l (at r row)) (sym e)
-      ∙ first-along ran′ row′ h same .rest
+      ap (λ (r : Ran). runsOn limit l (at r row)) (sym e) ∙ first-along ran′ row′ h same .rest
+
+  -- or is over with it
+  pub first-whole :
+      (ran′ : Ran) (row′ : List ℕ)
+      → ran′ ≡ ranOn ran k (l .ready)
+      → row′ ≡ row
+      → k ≡ limit
+      → runsOn limit l (at (emptyRun 0 m) row) ≡ at ran′ row′
+  first-whole ran′ row′ h same all =
+      first-run ran′ row′ h same ∙ no-more (limit - k) l (at ran′ row′) (omega (arith, all))

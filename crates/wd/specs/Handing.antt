@@ -3,8 +3,9 @@ use mathlib.Core.Bool.{Bool, true, cond, _||_}
 use Prim.Native.Nat.{ℕ}
 use lib.Dec.{ltb, eqb}
 use Rattle.activity.specs.declared.Activity.{Activity}
+use Rattle.chip.specs.declared.Conditions.{Conditions}
 use Rattle.chip.specs.declared.Lines.{Lines}
-use Rattle.chip.specs.Rings.{nextOf, toldOf}
+use Rattle.chip.specs.Rings.{nextOf}
 use Rattle.deeds.specs.Deeds.{withLost}
 use Rattle.handing.specs.Handing.{handingOf}
 use Rattle.handing.specs.declared.Handing.{Handing}
@@ -13,9 +14,14 @@ use Rattle.wd.specs.declared.Machine.{Machine}
 use Rattle.wd.specs.declared.Ran.{Ran}
 use Rattle.wd.specs.Turns.{seesOf}
 
--- what goes over, where the cell is not refused
+-- a condition of a Force Interrupt is asked
+abbrev pub asked : Conditions → Bool
+asked k = k .on || k .off || k .index
+
+-- what goes over, where the cell is not refused and nothing is to be told
 unfoldable pub overOf : Machine → Lines → ℕ → Handing
-overOf m l cell = cond (ltb 511 cell) Nothing (handingOf (seesOf m l cell) (m .activity))
+overOf m l cell =
+    cond (ltb 511 cell) Nothing (cond (asked (m .conditions)) Nothing (handingOf (seesOf m l cell) (m .activity)))
 
 -- the machine behind it: DRQ is on, and Lost Data where it was still on
 unfoldable pub handedOf : Machine → Bool → ℕ → Activity → Machine
@@ -26,7 +32,7 @@ handedOf m ready dr next =
       regs = record { tr = m .regs .tr; sr = m .regs .sr; dr = dr };
       wires = record {
         drq = true;
-        intrq = m .wires .intrq || toldOf (m .conditions) (m .past .ready) ready (eqb (m .ring .position) 0);
+        intrq = m .wires .intrq;
       };
       flags = withLost (m .flags) (m .flags .lost || m .wires .drq);
       head = m .head;

@@ -52,10 +52,6 @@ tallied t pulse.Off = record { passed = t .passed + 1; inward = t .inward; outwa
 tallied t pulse.In = record { passed = t .passed + 1; inward = t .inward + 1; outward = t .outward }
 tallied t pulse.Out = record { passed = t .passed + 1; inward = t .inward; outward = t .outward + 1 }
 
--- the pulse of the one byte time that such counts are of
-unfoldable pub pulseIn : Tally → Pulse
-pulseIn t = cond (eqb (t .inward) 1) pulse.In (cond (eqb (t .outward) 1) pulse.Out pulse.Off)
-
 -- "It reports how many passed": a refused byte time has not
 unfoldable pub countedOf : Tally → ℕ → Pulse → Tally
 countedOf t number p = cond (eqb number 0) (tallied t p) t

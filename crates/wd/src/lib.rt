@@ -9,7 +9,7 @@ ghost use Rattle.wd.specs.Turns.{appliedOf, turnedOf};
 ghost use Rattle.stretch.specs.Stretches.{aheadOf};
 ghost use Rattle.wd.specs.Stretches.{stretchedOf, firstOf, ranOn};
 ghost use Rattle.wd.specs.Handing.{overOf, handedOf, aloneOf};
-ghost use Rattle.wd.specs.Rows.{rowRefusal, refusedAt, doneBy, passedOf, rowOf, stopsAt, pulseIn, countedOf, ranTo, emptyRun, runOf, runRowOf, furtherOf};
+ghost use Rattle.wd.specs.Rows.{rowRefusal, refusedAt, doneBy, passedOf, rowOf, stopsAt, countedOf, ranTo, emptyRun, runOf, runRowOf, furtherOf};
 use activity::Act;
 use activity::Activity;
 use chip::Conditions;
@@ -159,19 +159,6 @@ fn ran_to(tally: Tally, passed: Passed) -> Ran
         tally: count,
         machine,
     }
-}
-
-// The pulse of the one byte time that such counts are of.
-fn pulse_in(tally: Tally) -> Pulse
-    ensures { λ r. ⌜ r ≡ pulseIn tally ⌝ }
-{
-    if tally.inward == 1 {
-        return Pulse::In;
-    }
-    if tally.outward == 1 {
-        return Pulse::Out;
-    }
-    Pulse::Off
 }
 
 fn empty_run(number: u8, machine: Machine) -> Ran
@@ -594,11 +581,16 @@ impl Machine {
         self.ahead(limit, row)
     }
 
-    // The byte that goes over, where the cell is not refused.
+    // The byte that goes over, where the cell is not refused and no condition of a Force Interrupt is asked. Beside a command
+    // that moves bytes none is: so nothing is told, and nothing has to be worked out for it.
     fn over(self, lines: Lines, cell: u16) -> Handing
         ensures { λ r. ⌜ r ≡ overOf self lines cell ⌝ }
     {
         if 511 < cell {
+            return Handing::Nothing;
+        }
+        let conditions = self.conditions;
+        if conditions.on | conditions.off | conditions.index {
             return Handing::Nothing;
         }
         let ring = self.ring;
@@ -616,35 +608,52 @@ impl Machine {
         ensures { λ r. ⌜ r ≡ handedOf self ready dr next ⌝ }
     {
         let ring = self.ring;
-        let regs = self.regs;
-        let wires = self.wires;
-        let flags = self.flags;
+        let mut regs = self.regs;
+        let mut wires = self.wires;
+        let mut flags = self.flags;
         let head = self.head;
-        let past = self.past;
         let conditions = self.conditions;
         let order = self.order;
-        let index = ring.position == 0;
-        let mut after = flags;
-        after.lost = flags.lost | wires.drq;
+        regs.dr = dr;
+        flags.lost = flags.lost | wires.drq;
+        wires.drq = true;
         Machine {
             ring: rings::next(ring),
             mfm: self.mfm,
-            regs: Regs {
-                tr: regs.tr,
-                sr: regs.sr,
-                dr,
-            },
-            wires: Wires {
-                drq: true,
-                intrq: wires.intrq | rings::told(conditions, past.ready, ready, index),
-            },
-            flags: after,
+            regs,
+            wires,
+            flags,
             head,
-            past: Past { ready, index },
+            past: Past {
+                ready,
+                index: ring.position == 0,
+            },
             conditions,
             order,
             activity: next,
         }
+    }
+
+    // A run where nothing is refused and no byte goes over in its first byte time: it may begin with a stretch, and be over with
+    // it. The loop has two callers here, so the compiler keeps it apart, and a byte that goes over does not pay for it.
+    fn run_open(self, lines: Lines, limit: u16, row: &mut [u16]) -> Ran
+        requires { ⌜ rowRefusal self (length (now row)) ≡ 0 ⌝ }
+        ensures { λ r. ⌜ (r ≡ furtherOf (emptyRun 0 self) lines limit (now (row .entry)) .ran) × (now (row .exit) ≡ furtherOf (emptyRun 0 self) lines limit (now (row .entry)) .row) ⌝ }
+    {
+        let stretch = self.first(lines.ready, limit, row);
+        let start = empty_run(0, self);
+        if stretch == 0 {
+            return run_on(start, lines, limit, row);
+        }
+        if stretch == limit {
+            return ran_on(start, stretch, lines.ready);
+        }
+        run_on(
+            ran_on(start, stretch, lines.ready),
+            lines,
+            limit - stretch,
+            row,
+        )
     }
 
     // Byte times up to a limit, to the first that ends with DRQ or INTRQ on. A byte time keeps a valid machine valid and
@@ -664,26 +673,18 @@ impl Machine {
                 row[position] = cell;
                 alone(self.handed(lines.ready, dr, next))
             }
-            Handing::Nothing => {
-                let stretch = self.first(lines.ready, limit, row);
-                let start = ran_on(empty_run(0, self), stretch, lines.ready);
-                run_on(start, lines, limit - stretch, row)
-            }
+            Handing::Nothing => self.run_open(lines, limit, row),
         }
     }
 
-    // One byte time over the lent row: a run of one. So a byte time has one place where it is made, which keeps the machine
-    // in registers there.
+    // One byte time over the lent row.
     pub fn byte_time(self, lines: Lines, row: &mut [u16]) -> Passed
         ensures { λ r. ⌜ (r ≡ passedOf self lines (now (row .entry))) × (now (row .exit) ≡ rowOf self lines (now (row .entry))) ⌝ }
     {
-        let ran = self.run(lines, 1, row);
-        let tally = ran.tally;
-        let machine = ran.machine;
-        Passed {
-            number: ran.number,
-            pulse: pulse_in(tally),
-            machine,
+        let refusal = self.row_refusal(row.len());
+        if refusal != 0 {
+            return refused(refusal, self);
         }
+        self.pass(lines, row)
     }
 }

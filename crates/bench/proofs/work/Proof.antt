@@ -2,22 +2,19 @@
 -- Assumes nothing.
 use Prim.Native.Nat.{_-_}
 use native.Mathlib.Omega.{arith}
-use borrow.Author.Needs.{needs}
 use Rattle.bench.specs.Rows.{Fits}
+use borrow.Author.Needs.{needs}
 use Rattle.bench.proofs.work.Statement.{statement}
 use Rattle.bench.proofs.work.Tie as tie
 
 abbrev Inv-loop : tie.InvT-loop
-Inv-loop cells₀ buffer₀ out₀ machine₀ lines₀ session₀ source₀ number₀ cells buffer out machine lines session source number = Fits (session .rows)
+Inv-loop cells₀ buffer₀ out₀ machine₀ session₀ source₀ number₀ cells buffer out machine session source number = Fits (session .rows)
 
 abbrev μ-loop : tie.MeasureT-loop
-μ-loop cells₀ buffer₀ out₀ machine₀ lines₀ session₀ source₀ number₀ cells buffer out machine lines session source number = 0xFFFFFFFFFFFFFFFF - number
+μ-loop cells₀ buffer₀ out₀ machine₀ session₀ source₀ number₀ cells buffer out machine session source number = 0xFFFFFFFFFFFFFFFF - number
 
 start-requires : tie.Need-start-requires Inv-loop μ-loop
 start-requires c κs = search needs
-
-lines-of-requires : tie.Need-lines-of-requires Inv-loop μ-loop
-lines-of-requires c κs = search needs
 
 start-requires-2 : tie.Need-start-requires-2 Inv-loop μ-loop
 start-requires-2 c κs = search needs
@@ -37,20 +34,14 @@ next-line-requires c κs = search needs
 request-of-requires : tie.Need-request-of-requires Inv-loop μ-loop
 request-of-requires c κs = search needs
 
-lines-after-requires : tie.Need-lines-after-requires Inv-loop μ-loop
-lines-after-requires c κs = search needs
-
 answer-requires : tie.Need-answer-requires Inv-loop μ-loop
 answer-requires c κs = search needs
 
-with-state-requires : tie.Need-with-state-requires Inv-loop μ-loop
-with-state-requires c κs = search needs
+carry-out-requires : tie.Need-carry-out-requires Inv-loop μ-loop
+carry-out-requires c κs = search needs
 
-end-line-requires : tie.Need-end-line-requires Inv-loop μ-loop
-end-line-requires c κs = (c .before .before .before .before .before .before .before .before .before .before .before .before .before .loop .inv, c .before .before .before .before .before .before .before .before .before .before .next-line .ensures)
-
-put-error-requires : tie.Need-put-error-requires Inv-loop μ-loop
-put-error-requires c κs = search needs
+tell-requires : tie.Need-tell-requires Inv-loop μ-loop
+tell-requires c κs = search needs
 
 returns : tie.Need-returns Inv-loop μ-loop
 returns c = search needs
@@ -59,7 +50,7 @@ returns-2 : tie.Need-returns-2 Inv-loop μ-loop
 returns-2 c = search needs
 
 loop-less : tie.Need-loop-less Inv-loop μ-loop
-loop-less c = omega (arith, c .before .before .before .before .before .before .before .before .before .before .before .before .before .before .before .loop-test .taken)
+loop-less c = omega (arith, c .before .before .before .before .before .before .before .before .before .before .before .before .before .before .loop-test .taken)
 
 loop-again : tie.Need-loop-again Inv-loop μ-loop
 loop-again c = search needs
@@ -74,18 +65,15 @@ work-spec =
     Inv-loop
     μ-loop
     start-requires
-    lines-of-requires
     start-requires-2
     start-requires-3
     loop-holds
     add-number
     next-line-requires
     request-of-requires
-    lines-after-requires
     answer-requires
-    with-state-requires
-    end-line-requires
-    put-error-requires
+    carry-out-requires
+    tell-requires
     returns
     returns-2
     loop-less

@@ -1,15 +1,14 @@
 -- `bench::output::put_numbers` is safe and ends: the measure is how many numbers are left. Assumes nothing.
 use Prim.Native.Nat.{_-_}
-use lib.ListN.{length}
 use borrow.Author.Needs.{needs}
 use Rattle.bench.proofs.output.put_numbers.Statement.{statement}
 use Rattle.bench.proofs.output.put_numbers.Tie as tie
 
 abbrev Inv-loop : tie.InvT-loop
-Inv-loop out₀ waiting digits numbers count₀ i₀ out count i = Unit {0}
+Inv-loop out₀ waiting digits size numbers count₀ i₀ out count i = Unit {0}
 
 abbrev μ-loop : tie.MeasureT-loop
-μ-loop out₀ waiting digits numbers count₀ i₀ out count i = length numbers - i
+μ-loop out₀ waiting digits size numbers count₀ i₀ out count i = size - i
 
 loop-holds : tie.Need-loop-holds Inv-loop μ-loop
 loop-holds c = search needs
@@ -17,8 +16,8 @@ loop-holds c = search needs
 mul-put-number : tie.Need-mul-put-number Inv-loop μ-loop
 mul-put-number c = search needs
 
-shared-slice-read-put-number : tie.Need-shared-slice-read-put-number Inv-loop μ-loop
-shared-slice-read-put-number c = search needs
+array-read-put-number : tie.Need-array-read-put-number Inv-loop μ-loop
+array-read-put-number c = search needs
 
 put-number-requires : tie.Need-put-number-requires Inv-loop μ-loop
 put-number-requires c κs = search needs
@@ -43,7 +42,7 @@ put-numbers-spec =
     μ-loop
     loop-holds
     mul-put-number
-    shared-slice-read-put-number
+    array-read-put-number
     put-number-requires
     add-i
     loop-less

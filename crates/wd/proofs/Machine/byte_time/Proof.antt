@@ -1,30 +1,31 @@
--- `wd::Machine::byte_time` meets its contract: a byte time is a run of one. Assumes nothing.
-use mathlib.Core.Path.{ap, _∙_}
-use denote.Ref.{now}
+-- `wd::Machine::byte_time` meets its contract, by its tests and its callees' contracts. Assumes nothing.
+use mathlib.Core.Path.{sym}
 use borrow.Author.Needs.{needs}
-use Rattle.chip.specs.declared.Pulse.{Pulse}
-use Rattle.wd.proofs.Once.{once, once-passed, once-row}
+use borrow.Author.Tests.{ne-eqb}
+use Rattle.wd.specs.Rows.{passedOf, rowOf}
 use Rattle.wd.proofs.Machine.byte_time.Statement.{statement}
 use Rattle.wd.proofs.Machine.byte_time.Tie as tie
 
-run-requires : tie.Need-run-requires
-run-requires c κs = search needs
+row-refusal-requires : tie.Need-row-refusal-requires
+row-refusal-requires c κs = search needs
 
-pulse-in-requires : tie.Need-pulse-in-requires
-pulse-in-requires c κs = search needs
+refused-requires : tie.Need-refused-requires
+refused-requires c κs = search needs
+
+returns : tie.Need-returns
+unfolding passedOf rowOf
+returns c = (simp (c .refused .ensures, ne-eqb _ _ (c .before .if1 .taken), sym (c .before .before .row-refusal .ensures)), simp (c .refused .ensures, ne-eqb _ _ (c .before .if1 .taken), sym (c .before .before .row-refusal .ensures)))
+
+pass-requires : tie.Need-pass-requires
+pass-requires c κs = search needs
 
 same-length : tie.Need-same-length
 same-length c = search needs
 
-returns : tie.Need-returns
-returns c =
-    let a = c .before .before .before .before .before .before .before .before .args in
-    let ran = c .before .before .before .before .before .run in (
-      ap (λ (p : Pulse). record { number = ran .result .number; pulse = p; machine = ran .result .machine }) (c .pulse-in .ensures)
-          ∙ ap once (ran .ensures .0)
-          ∙ once-passed (a .self) (a .lines) (now (a .row)),
-      ran .ensures .1 ∙ once-row (a .self) (a .lines) (now (a .row)),
-    )
+returns-2 : tie.Need-returns-2
+returns-2 c = search needs
 
 pub byte-time-spec : {M : Type 1} → statement M
-byte-time-spec = tie.close (tie.spec run-requires pulse-in-requires same-length returns)
+byte-time-spec =
+    tie.close
+    (tie.spec row-refusal-requires refused-requires returns pass-requires same-length returns-2)

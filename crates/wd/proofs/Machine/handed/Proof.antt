@@ -1,5 +1,4 @@
 -- `wd::Machine::handed` meets its contract, by its tests and its callees' contracts. Assumes nothing.
-use mathlib.Core.Path.{sym}
 use borrow.Author.Needs.{needs}
 use Rattle.wd.specs.Handing.{handedOf}
 use Rattle.wd.proofs.Machine.handed.Statement.{statement}
@@ -8,12 +7,9 @@ use Rattle.wd.proofs.Machine.handed.Tie as tie
 next-requires : tie.Need-next-requires
 next-requires c κs = search needs
 
-told-requires : tie.Need-told-requires
-told-requires c κs = search needs
-
 returns : tie.Need-returns
 unfolding handedOf
-returns c = simp (sym (c .before .told .ensures), c .before .before .next .ensures)
+returns c = simp (c .before .next .ensures)
 
 pub handed-spec : {M : Type 1} → statement M
-handed-spec = tie.close (tie.spec next-requires told-requires returns)
+handed-spec = tie.close (tie.spec next-requires returns)

@@ -1,5 +1,4 @@
--- `wd::Machine::run` meets its contract: a byte that goes over is a run by itself, and behind the stretch that it begins with a
--- run goes on. Assumes nothing.
+-- `wd::Machine::run` meets its contract: a byte that goes over is a run by itself. Assumes nothing.
 use mathlib.Core.Path.{sym, ap, _∙_}
 use Prim.Native.Nat.{ℕ}
 use lib.ListN.{length}
@@ -8,9 +7,8 @@ use borrow.Author.Needs.{needs}
 use Rattle.wd.specs.Rows.{emptyRun, Run}
 use Rattle.wd.specs.Handing.{aloneOf}
 use Rattle.wd.proofs.Valid.{row-inside}
-use Rattle.wd.proofs.Runs.{none-run, some-run}
+use Rattle.wd.proofs.Runs.{open-run, none-run, some-run}
 use Rattle.wd.proofs.Handed.{over-run}
-use Rattle.wd.proofs.Stretches.{first-fits, first-along, first-run}
 use Rattle.wd.proofs.Machine.run.Statement.{statement}
 use Rattle.wd.proofs.Machine.run.Tie as tie
 
@@ -63,29 +61,9 @@ alone-requires c κs = search needs
 enum-told : tie.Need-enum-told
 enum-told c = search needs
 
-first-requires : tie.Need-first-requires
-first-requires c κs = search needs
-
-empty-run-requires-2 : tie.Need-empty-run-requires-2
-empty-run-requires-2 c κs = search needs
-
-ran-on-requires : tie.Need-ran-on-requires
-ran-on-requires c κs =
-    let a = c .before .before .before .before .before .before .before .before .before .before .before .before .before .before .args in
-    let s = c .before .before .before .first in
-    let opens = sym (c .before .before .before .before .before .before .before .before .before .before .before .before .row-refusal .ensures) ∙ some-run (c .before .before .before .before .before .before .before .before .before .before .before .before .row-refusal .result) (a .limit) (c .before .before .before .before .before .before .before .before .before .before .before .if1 .left) .0 in
-    first-fits (a .lines) (a .self) (a .limit) (now (a .row)) opens (c .before .before .before .before .before .before .before .before .before .before .before .before .before .before .fits .limit .fits) (c .empty-run2 .result) (c .empty-run2 .ensures) (s .result) (s .ensures .0 .0) (s .ensures .1)
-
-sub-run-on : tie.Need-sub-run-on
-sub-run-on c = search needs
-
-run-on-requires : tie.Need-run-on-requires
-run-on-requires c κs =
-    let a = c .before .before .before .before .before .before .before .before .before .before .before .before .before .before .before .before .args in
-    let s = c .before .before .before .before .before .first in
-    let opens = sym (c .before .before .before .before .before .before .before .before .before .before .before .before .before .before .row-refusal .ensures) ∙ some-run (c .before .before .before .before .before .before .before .before .before .before .before .before .before .before .row-refusal .result) (a .limit) (c .before .before .before .before .before .before .before .before .before .before .before .before .before .if1 .left) .0 in
-    let v = first-along (a .lines) (a .self) (a .limit) (now (a .row)) opens (c .before .before .before .before .before .before .before .before .before .before .before .before .before .before .before .before .fits .limit .fits) (c .before .before .empty-run2 .result) (c .before .before .empty-run2 .ensures) (s .result) (s .ensures .0 .0) (s .ensures .1) (c .before .ran-on .result) (s .last .1 .1 .1 .0) (c .before .ran-on .ensures) (s .ensures .0 .1) in
-    (v .passes, (v .room, (v .inward, v .outward)))
+run-open-requires : tie.Need-run-open-requires
+run-open-requires c κs =
+    sym (c .before .before .before .before .before .before .before .before .row-refusal .ensures) ∙ some-run (c .before .before .before .before .before .before .before .before .row-refusal .result) (c .before .before .before .before .before .before .before .before .before .before .args .limit) (c .before .before .before .before .before .before .before .if1 .left) .0
 
 same-length : tie.Need-same-length
 same-length c = search needs
@@ -105,11 +83,10 @@ same-length-2 c = search needs
 
 returns-3 : tie.Need-returns-3
 returns-3 c =
-    let a = c .before .before .before .before .before .before .before .before .before .before .before .before .before .before .before .before .before .before .before .args in
-    let s = c .before .before .before .before .before .before .before .before .first in
-    let o = c .before .before .run-on in
-    let opens = sym (c .before .before .before .before .before .before .before .before .before .before .before .before .before .before .before .before .before .row-refusal .ensures) ∙ some-run (c .before .before .before .before .before .before .before .before .before .before .before .before .before .before .before .before .before .row-refusal .result) (a .limit) (c .before .before .before .before .before .before .before .before .before .before .before .before .before .before .before .before .if1 .left) .0 in
-    let v = first-run (a .lines) (a .self) (a .limit) (now (a .row)) opens (c .before .before .before .before .before .before .before .before .before .before .before .before .before .before .before .before .before .before .before .fits .limit .fits) (c .before .before .before .before .before .empty-run2 .result) (c .before .before .before .before .before .empty-run2 .ensures) (s .result) (s .ensures .0 .0) (s .ensures .1) (c .before .before .before .before .ran-on .result) (s .last .1 .1 .1 .0) (c .before .before .before .before .ran-on .ensures) (s .ensures .0 .1) in
+    let a = c .before .before .before .before .before .before .before .before .before .before .before .before .before .args in
+    let o = c .before .before .run-open in
+    let opens = sym (c .before .before .before .before .before .before .before .before .before .before .before .row-refusal .ensures) ∙ some-run (c .before .before .before .before .before .before .before .before .before .before .before .row-refusal .result) (a .limit) (c .before .before .before .before .before .before .before .before .before .before .if1 .left) .0 in
+    let v = open-run (a .self) (a .lines) (a .limit) (now (a .row)) opens in
     (o .ensures .0 ∙ sym (ap (λ (r : Run). r .ran) v), o .ensures .1 ∙ sym (ap (λ (r : Run). r .row) v))
 
 pub run-spec : {M : Type 1} → statement M
@@ -129,11 +106,7 @@ run-spec =
     handed-requires
     alone-requires
     enum-told
-    first-requires
-    empty-run-requires-2
-    ran-on-requires
-    sub-run-on
-    run-on-requires
+    run-open-requires
     same-length
     returns-2
     same-length-2
