@@ -73,11 +73,12 @@ pub fn carry_out(
     requires { ⌜ Fits (session .rows) × (line .count ≤ 65) ⌝ }
     ensures { λ r. ⌜ Fits (r .rows) ⌝ }
 {
+    let rows = session.rows;
     let mut next = session;
     match request {
         Request::PowerOn { mfm, length } => {
-            let rows = rows::blank(session.rows, length as usize, mfm, cells);
-            next.rows = rows;
+            let blank = rows::blank(rows, length as usize, mfm, cells);
+            next.rows = blank;
             return next;
         }
         Request::SetLines { bits } => {
@@ -89,15 +90,7 @@ pub fn carry_out(
             return work_rows(session, line, task, cells, out);
         }
         Request::View { mfm, track, sector } => {
-            next.waiting = views::print(
-                out,
-                session.waiting,
-                session.rows,
-                cells,
-                mfm,
-                track,
-                sector,
-            );
+            next.waiting = views::print(out, session.waiting, rows, cells, mfm, track, sector);
             return next;
         }
         Request::Bad => {
