@@ -5,7 +5,8 @@ use crate::layout;
 use crate::lines::Lines;
 use crate::machine::{Direction, Machine, LONGEST_TRACK, SHORTEST_TRACK};
 use crate::number;
-use crate::script::{self, Line, Parsed};
+use crate::script::Line;
+use crate::session::Session;
 use crate::viewer::{self, Wanted};
 
 /// Cells that each row has room for.
@@ -27,23 +28,9 @@ pub struct Bench {
 
 /// Everything that a script prints.
 pub fn run(script: &[u8]) -> Vec<u8> {
-    let mut bench = Bench::new();
-    let mut output = String::new();
-    for (index, bytes) in script.split(|&byte| byte == b'\n').enumerate() {
-        let printed = match script::parse(bytes) {
-            Parsed::Empty => continue,
-            Parsed::Line(line) => bench.carry_out(&line),
-            Parsed::Bad => None,
-        };
-        match printed {
-            Some(text) => output.push_str(&format!("{}\n", text)),
-            None => {
-                output.push_str(&format!("error {}\n", index + 1));
-                break;
-            }
-        }
-    }
-    output.into_bytes()
+    let mut session = Session::default();
+    let printed = session.take(script);
+    (printed + &session.end()).into_bytes()
 }
 
 impl Bench {

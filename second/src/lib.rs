@@ -2,8 +2,9 @@
 //
 // The controller is `machine` with the files of its commands (`positioning`, `search`, `reading`,
 // `writing`); it decides what passes by looking back at lists of cells (`field`). `bench` works it
-// from a script, `generate` makes scripts from seeds, `compare` holds another program to it, and
-// `soak` does so until millions of byte times have passed.
+// from a script, which comes in by a `session`; `generate` makes scripts from seeds, `compare` holds
+// another program to the bench, `soak` does so until millions of byte times have passed, and `talk`
+// awaits an answer to what it has typed.
 // `picture`, `viewer` and `list` are document 01's pictures and viewer, `vectors` its CRC vectors.
 
 #![forbid(unsafe_code)]
@@ -28,8 +29,10 @@ pub mod random;
 mod reading;
 pub mod script;
 mod search;
+pub mod session;
 pub mod soak;
 pub mod status;
+pub mod talk;
 pub mod tracks;
 pub mod vectors;
 pub mod viewer;

@@ -1,5 +1,6 @@
 // The lines of standard input, over a buffer.
 ghost use Prim.Native.Nat.{_≤_};
+use crate::output;
 use crate::output::Buffer;
 use libc::STDIN_FILENO;
 use script::Line;
@@ -18,9 +19,11 @@ pub struct Taken {
     pub source: Source,
 }
 
+// A line, and how many bytes of output still wait after it was read.
 pub struct Read {
     pub line: Line,
     pub source: Source,
+    pub waiting: u16,
 }
 
 impl Source {
@@ -31,6 +34,16 @@ impl Source {
             over: false,
         }
     }
+}
+
+// Where the next byte is still to be read, the bytes of output that wait go out first: who types a line may wait for its
+// answer before typing the next one.
+fn flush_before_read(source: Source, out: &Buffer, waiting: u16) -> u16 {
+    if 0 < source.left {
+        return waiting;
+    }
+    output::flush(out, waiting);
+    0
 }
 
 // Reads once more where nothing is left.
@@ -68,14 +81,17 @@ fn take(source: Source, buffer: &mut Buffer) -> Taken {
     }
 }
 
-// Reads a line, to its newline. A proved loop has to end: so the bytes are counted down, from a number that no line has.
-pub fn next_line(source: Source, buffer: &mut Buffer) -> Read
+// Reads a line, to its newline; of the output so many bytes wait. A proved loop has to end: so the bytes are counted down,
+// from a number that no line has.
+pub fn next_line(source: Source, buffer: &mut Buffer, out: &Buffer, waiting: u16) -> Read
     ensures { λ r. ⌜ r .line .count ≤ 65 ⌝ }
 {
     let mut reader = Reader::start();
     let mut rest = source;
+    let mut count = waiting;
     let mut left = u64::MAX;
     while 0 < left {
+        count = flush_before_read(rest, out, count);
         let taken = take(rest, buffer);
         let byte = taken.byte;
         rest = taken.source;
@@ -83,6 +99,7 @@ pub fn next_line(source: Source, buffer: &mut Buffer) -> Read
             return Read {
                 line: reader.ended(),
                 source: rest,
+                waiting: count,
             };
         }
         reader = reader.fed(byte);
@@ -91,5 +108,6 @@ pub fn next_line(source: Source, buffer: &mut Buffer) -> Read
     Read {
         line: reader.ended(),
         source: rest,
+        waiting: count,
     }
 }

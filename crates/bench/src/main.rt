@@ -28,8 +28,9 @@ fn work(cells: &mut Cells, buffer: &mut Buffer, out: &mut Buffer) -> Ended {
     let mut number = 0u64;
     while number < u64::MAX {
         number += 1;
-        let read = input::next_line(source, buffer);
+        let read = input::next_line(source, buffer, out, session.waiting);
         source = read.source;
+        session.waiting = read.waiting;
         let request = script::request_of(read.line);
         let answered = calls::answer(machine, session.lines, request, session.rows, cells);
         machine = answered.machine;

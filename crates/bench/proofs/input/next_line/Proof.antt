@@ -7,16 +7,19 @@ use Rattle.bench.proofs.input.next_line.Statement.{statement}
 use Rattle.bench.proofs.input.next_line.Tie as tie
 
 abbrev Inv-loop : tie.InvT-loop
-Inv-loop buffer₀ reader₀ rest₀ left₀ buffer reader rest left = reader .line .count ≤ 65
+Inv-loop buffer₀ out waiting reader₀ rest₀ count₀ left₀ buffer reader rest count left = reader .line .count ≤ 65
 
 abbrev μ-loop : tie.MeasureT-loop
-μ-loop buffer₀ reader₀ rest₀ left₀ buffer reader rest left = left
+μ-loop buffer₀ out waiting reader₀ rest₀ count₀ left₀ buffer reader rest count left = left
 
 start-requires : tie.Need-start-requires Inv-loop μ-loop
 start-requires c κs = search needs
 
 loop-holds : tie.Need-loop-holds Inv-loop μ-loop
 loop-holds c = rw (c .start .ensures) start-holds
+
+flush-before-read-requires : tie.Need-flush-before-read-requires Inv-loop μ-loop
+flush-before-read-requires c κs = search needs
 
 take-requires : tie.Need-take-requires Inv-loop μ-loop
 take-requires c κs = search needs
@@ -25,7 +28,7 @@ ended-requires : tie.Need-ended-requires Inv-loop μ-loop
 ended-requires c κs = search needs
 
 returns : tie.Need-returns Inv-loop μ-loop
-returns c = rw (c .ended .ensures) (ended-holds _ (c .before .before .before .before .before .before .loop .inv))
+returns c = rw (c .ended .ensures) (ended-holds _ (c .before .before .before .before .before .before .before .loop .inv))
 
 fed-requires : tie.Need-fed-requires Inv-loop μ-loop
 fed-requires c κs = search needs
@@ -37,7 +40,7 @@ loop-less : tie.Need-loop-less Inv-loop μ-loop
 loop-less c = search needs
 
 loop-again : tie.Need-loop-again Inv-loop μ-loop
-loop-again c = rw (c .fed .ensures) (fed-holds _ _ (c .before .before .before .before .before .before .loop .inv))
+loop-again c = rw (c .fed .ensures) (fed-holds _ _ (c .before .before .before .before .before .before .before .loop .inv))
 
 ended-requires-2 : tie.Need-ended-requires-2 Inv-loop μ-loop
 ended-requires-2 c κs = search needs
@@ -53,6 +56,7 @@ next-line-spec =
     μ-loop
     start-requires
     loop-holds
+    flush-before-read-requires
     take-requires
     ended-requires
     returns
