@@ -4,6 +4,7 @@ mod commands;
 mod edges;
 mod forcing;
 mod formatting;
+mod line_ends;
 mod refusing;
 mod serving;
 mod settling;
@@ -36,7 +37,7 @@ const TRACK_0: u8 = 4;
 const HEAD_LOADED: u8 = 8;
 
 /// Lines that cannot be carried out; one of them may end a script.
-const BAD_LINES: [&str; 16] = [
+const BAD_LINES: [&str; 18] = [
     "B 1",
     "G",
     "G 10000",
@@ -53,6 +54,8 @@ const BAD_LINES: [&str; 16] = [
     "b",
     "B\t",
     "G 1G",
+    "B\r ",
+    "\rB",
 ];
 
 /// A sound sector.
@@ -112,7 +115,7 @@ pub fn script(seed: u64) -> String {
         }
     }
     generator.finish();
-    generator.script
+    line_ends::ended(generator.script, seed)
 }
 
 /// Whether the seed's script is one of long waits, cut into runs.

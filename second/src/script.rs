@@ -18,7 +18,7 @@ pub enum Parsed {
     Bad,
 }
 
-/// Reads one line, its newline taken off. "`#` starts a comment that runs to the end of the
+/// Reads one line, its end taken off. "`#` starts a comment that runs to the end of the
 /// line"; what it says does not count.
 pub fn parse(bytes: &[u8]) -> Parsed {
     let text = bytes.split(|&byte| byte == b'#').next().unwrap_or(&[]);

@@ -24,14 +24,22 @@ impl Session {
     pub fn take(&mut self, bytes: &[u8]) -> String {
         let mut printed = String::new();
         for piece in bytes.split_inclusive(|&byte| byte == b'\n') {
-            if let Some(end) = piece.strip_suffix(b"\n") {
-                self.begun.extend_from_slice(end);
+            if let Some(rest) = piece.strip_suffix(b"\n") {
+                self.begun.extend_from_slice(rest);
+                self.drop_carriage_return();
                 printed.push_str(&self.end_line());
             } else {
                 self.begun.extend_from_slice(piece);
             }
         }
         printed
+    }
+
+    /// "A carriage return just before a newline belongs to the line's end."
+    fn drop_carriage_return(&mut self) {
+        if self.begun.ends_with(b"\r") {
+            self.begun.pop();
+        }
     }
 
     /// "The last may end with the input": what it prints then.

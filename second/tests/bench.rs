@@ -1,6 +1,7 @@
 // The bench language: its example, every line, and bad scripts of every kind.
 
 use second::bench;
+use second::session::Session;
 
 fn printed(script: &str) -> String {
     String::from_utf8(bench::run(script.as_bytes())).expect("the bench prints text")
@@ -58,7 +59,11 @@ fn bytes_that_no_line_holds_are_errors() {
     for bad in [
         "\tU",
         "U\t",
-        "U\r",
+        "\rU",
+        "U\r ",
+        "U\r\r",
+        "U\r# a comment",
+        "F 0\r1 1",
         "u",
         "UU",
         "F0 1 1",
@@ -71,6 +76,38 @@ fn bytes_that_no_line_holds_are_errors() {
         "9",
     ] {
         assert_eq!(printed(&format!("U\n{}\nU\n", bad)), "U\nerror 2\n");
+    }
+}
+
+#[test]
+fn a_carriage_return_before_a_newline_belongs_to_the_lines_end() {
+    assert_eq!(printed("F 0 1 12\r\nV 0 1\r\nU \r\n"), "F\nV 0012\nU\n");
+    assert_eq!(printed("\r\n  \r\n# one\r\nU# two\r\nU\n"), "U\nU\n");
+    assert_eq!(printed("\r\nU\r\nz\r\n"), "U\nerror 3\n");
+}
+
+#[test]
+fn a_carriage_return_at_the_end_of_the_input_is_an_error() {
+    assert_eq!(printed("U\nU\r"), "U\nerror 2\n");
+    assert_eq!(printed("U\r\n\r"), "U\nerror 2\n");
+}
+
+#[test]
+fn a_comment_may_hold_carriage_returns() {
+    assert_eq!(printed("U# \r \r\r\nU#\r"), "U\nU\n");
+}
+
+#[test]
+fn a_script_may_come_in_any_pieces() {
+    let script = b"N 9\r\n\n# \r\nF 0 1 12\nV 0 1\r\nB\r";
+    let whole = bench::run(script);
+    assert!(whole.ends_with(b"V 0012\nerror 6\n"));
+    for cut in 0..=script.len() {
+        let mut session = Session::default();
+        let mut pieces = session.take(&script[..cut]);
+        pieces.push_str(&session.take(&script[cut..]));
+        pieces.push_str(&session.end());
+        assert_eq!(pieces.as_bytes(), whole, "cut at {}", cut);
     }
 }
 

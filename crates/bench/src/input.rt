@@ -97,7 +97,7 @@ pub fn next_line(source: Source, buffer: &mut Buffer, out: &Buffer, waiting: u16
         rest = taken.source;
         if byte == b'\n' {
             return Read {
-                line: reader.ended(),
+                line: reader.ended(!rest.over),
                 source: rest,
                 waiting: count,
             };
@@ -106,7 +106,7 @@ pub fn next_line(source: Source, buffer: &mut Buffer, out: &Buffer, waiting: u16
         left -= 1;
     }
     Read {
-        line: reader.ended(),
+        line: reader.ended(false),
         source: rest,
         waiting: count,
     }

@@ -1,11 +1,12 @@
 -- No line has more numbers than a place and 64 cells, however its bytes go on. Assumes nothing.
+use mathlib.Core.Bool.{Bool, not, _&&_}
 use Prim.Native.Nat.{ℕ, zero-le, _≤_}
 use native.Mathlib.Omega.{arith}
 use lib.Dec.{leb, eqb}
 use borrow.Author.Tests.{leb-false}
 use Rattle.common.proofs.Cases.{by-cond}
 use Rattle.script.specs.Words.{isLetter, isNumber}
-use Rattle.script.specs.Lines.{noLine, spoilt, lettered, numbered, lineWith, lineStart, wordEnd, fedOf, lineOf}
+use Rattle.script.specs.Lines.{noLine, spoilt, lettered, numbered, lineWith, lineStart, wordEnd, crHeld, crStray, wordGrown, fedOf, lineOf}
 use Rattle.script.specs.declared.words.Word.{Word}
 use Rattle.script.specs.declared.lines.Line.{Line}
 use Rattle.script.specs.declared.lines.Reader.{Reader}
@@ -37,15 +38,20 @@ unfolding lineStart noLine
 start-holds = zero-le
 
 pub fed-holds : (r : Reader) (byte : ℕ) → r .line .count ≤ 65 → fedOf r byte .line .count ≤ 65
-unfolding fedOf wordEnd
+unfolding fedOf wordEnd crHeld crStray spoilt wordGrown
 fed-holds r byte h =
     by-cond Reads (r .comment) (λ _. h)
+    (λ _. by-cond Reads (r .cr) (λ _. h)
     (λ _. by-cond Reads (eqb byte 0x20) (λ _. ended)
-    (λ _. by-cond Reads (eqb byte 0x23) (λ _. ended) (λ _. h)))
+    (λ _. by-cond Reads (eqb byte 0x23) (λ _. ended)
+    (λ _. by-cond Reads (eqb byte 0x0D) (λ _. h) (λ _. h)))))
   where
     ended : Holds (lineWith (r .line) (r .word))
     ended = with-holds (r .line) (r .word) h
 
-pub ended-holds : (r : Reader) → r .line .count ≤ 65 → lineOf r .count ≤ 65
-unfolding lineOf
-ended-holds r h = with-holds (r .line) (r .word) h
+pub ended-holds : (r : Reader) (newline : Bool) → r .line .count ≤ 65 → lineOf r newline .count ≤ 65
+unfolding lineOf spoilt
+ended-holds r newline h = by-cond Holds (r .cr && not newline) (λ _. whole) (λ _. whole)
+  where
+    whole : Holds (lineWith (r .line) (r .word))
+    whole = with-holds (r .line) (r .word) h

@@ -1,5 +1,5 @@
 -- Lines: a letter, and numbers. Assumes nothing.
-use mathlib.Core.Bool.{Bool, true, false, cond}
+use mathlib.Core.Bool.{Bool, true, false, cond, not, _&&_}
 use Prim.Native.Nat.{ℕ, _+_}
 use lib.Dec.{leb, eqb}
 use lib.ListN.{set, replicate}
@@ -34,19 +34,33 @@ unfoldable pub lineWith : Line → Word → Line
 lineWith l w = cond (eqb (w .size) 0) l (cond (eqb (l .letter) 0) (lettered l w) (numbered l w))
 
 unfoldable pub lineStart : Reader
-lineStart = record { line = noLine; word = noWord; comment = false }
+lineStart = record { line = noLine; word = noWord; comment = false; cr = false }
 
 unfoldable pub wordEnd : Reader → Bool → Reader
-wordEnd r comment = record { line = lineWith (r .line) (r .word); word = noWord; comment = comment }
+wordEnd r comment = record { line = lineWith (r .line) (r .word); word = noWord; comment = comment; cr = false }
+
+-- "A carriage return just before a newline belongs to the line's end": what comes next decides
+unfoldable pub crHeld : Reader → Reader
+crHeld r = record { line = r .line; word = r .word; comment = r .comment; cr = true }
+
+-- "anywhere else outside a comment it is an error": another byte came
+unfoldable pub crStray : Reader → Reader
+crStray r = record { line = spoilt (r .line); word = r .word; comment = r .comment; cr = r .cr }
+
+-- any other byte is a word's
+unfoldable pub wordGrown : Reader → ℕ → Reader
+wordGrown r byte = record { line = r .line; word = wordWith (r .word) byte; comment = false; cr = false }
 
 -- "`#` starts a comment that runs to the end of the line"; a space ends a word, as the comment does
 unfoldable pub fedOf : Reader → ℕ → Reader
 fedOf r byte =
     cond (r .comment) r
+    (cond (r .cr) (crStray r)
     (cond (eqb byte 0x20) (wordEnd r false)
     (cond (eqb byte 0x23) (wordEnd r true)
-    (record { line = r .line; word = wordWith (r .word) byte; comment = false })))
+    (cond (eqb byte 0x0D) (crHeld r)
+    (wordGrown r byte)))))
 
--- the line whose bytes these were
-unfoldable pub lineOf : Reader → Line
-lineOf r = lineWith (r .line) (r .word)
+-- the line whose bytes these were, at its newline or at the end of the input, before which no carriage return may stand
+unfoldable pub lineOf : Reader → Bool → Line
+lineOf r newline = cond (r .cr && not newline) (spoilt (lineWith (r .line) (r .word))) (lineWith (r .line) (r .word))

@@ -1,6 +1,6 @@
 // A line of a script: its letter and its numbers.
 ghost use mathlib.Core.Path.{_≡_};
-ghost use Rattle.script.specs.Lines.{noLine, spoilt, lettered, numbered, lineWith, lineStart, wordEnd, fedOf, lineOf};
+ghost use Rattle.script.specs.Lines.{noLine, spoilt, lettered, numbered, lineWith, lineStart, wordEnd, crHeld, crStray, wordGrown, fedOf, lineOf};
 use crate::words::Word;
 
 // A line so far. Its letter is 0 until it has one; its numbers are a place and 64 cells at most.
@@ -17,6 +17,8 @@ pub struct Reader {
     pub line: Line,
     pub word: Word,
     pub comment: bool,
+    // There is a carriage return outside a comment: only a newline may follow.
+    pub cr: bool,
 }
 
 impl Line {
@@ -91,10 +93,11 @@ impl Reader {
             line: Line::none(),
             word: Word::none(),
             comment: false,
+            cr: false,
         }
     }
 
-    // Behind a word, and in a comment or not.
+    // After a word, and in a comment or not.
     fn end_word(self, comment: bool) -> Reader
         ensures { λ r. ⌜ r ≡ wordEnd self comment ⌝ }
     {
@@ -104,15 +107,51 @@ impl Reader {
             line: line.with(word),
             word: Word::none(),
             comment,
+            cr: false,
         }
     }
 
-    // Behind one byte more, which is no newline.
+    // After a carriage return, which belongs to the line's end if a newline comes next.
+    fn hold_cr(self) -> Reader
+        ensures { λ r. ⌜ r ≡ crHeld self ⌝ }
+    {
+        let mut reader = self;
+        reader.cr = true;
+        reader
+    }
+
+    // After a carriage return and a byte that is no newline: the line is bad, whatever follows.
+    fn stray_cr(self) -> Reader
+        ensures { λ r. ⌜ r ≡ crStray self ⌝ }
+    {
+        let mut reader = self;
+        reader.line.bad = true;
+        reader
+    }
+
+    // After one byte more of a word.
+    fn grow_word(self, byte: u8) -> Reader
+        ensures { λ r. ⌜ r ≡ wordGrown self byte ⌝ }
+    {
+        let word = self.word;
+        let line = self.line;
+        Reader {
+            line,
+            word: word.with(byte),
+            comment: false,
+            cr: false,
+        }
+    }
+
+    // After one byte more, which is no newline.
     pub fn fed(self, byte: u8) -> Reader
         ensures { λ r. ⌜ r ≡ fedOf self byte ⌝ }
     {
         if self.comment {
             return self;
+        }
+        if self.cr {
+            return self.stray_cr();
         }
         if byte == b' ' {
             return self.end_word(false);
@@ -120,21 +159,22 @@ impl Reader {
         if byte == b'#' {
             return self.end_word(true);
         }
-        let word = self.word;
-        let line = self.line;
-        Reader {
-            line,
-            word: word.with(byte),
-            comment: false,
+        if byte == b'\r' {
+            return self.hold_cr();
         }
+        self.grow_word(byte)
     }
 
-    // The whole line, at its newline or at the end of the input.
-    pub fn ended(self) -> Line
-        ensures { λ r. ⌜ r ≡ lineOf self ⌝ }
+    // The whole line, at its newline or else at the end of the input, before which no carriage return may stand.
+    pub fn ended(self, newline: bool) -> Line
+        ensures { λ r. ⌜ r ≡ lineOf self newline ⌝ }
     {
         let line = self.line;
         let word = self.word;
-        line.with(word)
+        let whole = line.with(word);
+        if self.cr & !newline {
+            return whole.spoil();
+        }
+        whole
     }
 }

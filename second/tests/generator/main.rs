@@ -179,7 +179,27 @@ fn only_a_last_bad_line_stops_a_script() {
             .lines()
             .filter(|line| line.starts_with("error"))
             .count();
-        assert_eq!(errors == 1, script.ends_with("\nU\n"), "seed {}", seed);
+        let stops = script.trim_end().ends_with("\nU") || script.ends_with('\r');
+        assert_eq!(errors == 1, stops, "seed {}", seed);
         assert!(errors <= 1);
     }
+}
+
+#[test]
+fn some_scripts_have_other_line_ends() {
+    let count = |ends: fn(&str) -> bool| {
+        let scripts = (0..33).map(generate::script);
+        scripts.filter(|script| ends(script)).count()
+    };
+    assert_eq!(count(|script| script.ends_with("\r\n")), 3);
+    assert_eq!(count(|script| script.ends_with('\r')), 3);
+    assert_eq!(count(|script| !script.ends_with(['\r', '\n'])), 3);
+}
+
+#[test]
+fn a_script_with_carriage_returns_prints_what_it_prints_without() {
+    let script = generate::script(2);
+    assert_eq!(script.lines().count(), script.matches("\r\n").count());
+    let plain = script.replace("\r\n", "\n");
+    assert_eq!(bench::run(script.as_bytes()), bench::run(plain.as_bytes()));
 }

@@ -28,7 +28,7 @@ ended-requires : tie.Need-ended-requires Inv-loop μ-loop
 ended-requires c κs = search needs
 
 returns : tie.Need-returns Inv-loop μ-loop
-returns c = rw (c .ended .ensures) (ended-holds _ (c .before .before .before .before .before .before .before .loop .inv))
+returns c = rw (c .ended .ensures) (ended-holds _ _ (c .before .before .before .before .before .before .before .before .loop .inv))
 
 fed-requires : tie.Need-fed-requires Inv-loop μ-loop
 fed-requires c κs = search needs
@@ -46,7 +46,7 @@ ended-requires-2 : tie.Need-ended-requires-2 Inv-loop μ-loop
 ended-requires-2 c κs = search needs
 
 returns-2 : tie.Need-returns-2 Inv-loop μ-loop
-returns-2 c = rw (c .ended2 .ensures) (ended-holds _ (c .before .before .loop .inv))
+returns-2 c = rw (c .ended2 .ensures) (ended-holds _ _ (c .before .before .loop .inv))
 
 pub next-line-spec : {M : Type 1} → statement M
 next-line-spec =

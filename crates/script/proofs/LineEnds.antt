@@ -1,0 +1,61 @@
+-- A line that ends with a carriage return and a newline is the line that ends with the newline alone; a carriage return
+-- anywhere else outside a comment makes its line bad, and a bad line stays bad. Assumes nothing.
+use mathlib.Core.Path.{_≡_, refl}
+use mathlib.Core.Bool.{Bool, true, false, not, _&&_}
+use Prim.Native.Nat.{ℕ}
+use lib.Dec.{leb, eqb}
+use Rattle.common.proofs.Cases.{by-cond}
+use Rattle.script.specs.Words.{isLetter, isNumber}
+use Rattle.script.specs.Lines.{spoilt, lettered, numbered, lineWith, wordEnd, crHeld, crStray, wordGrown, fedOf, lineOf}
+use Rattle.script.specs.declared.words.Word.{Word}
+use Rattle.script.specs.declared.lines.Line.{Line}
+use Rattle.script.specs.declared.lines.Reader.{Reader}
+
+abbrev Bad : Line → Type 0
+Bad l = l .bad ≡ true
+
+abbrev Spoilt : Reader → Type 0
+Spoilt r = Bad (r .line)
+
+-- "A carriage return just before a newline belongs to the line's end"; a comment passes over it
+pub cr-newline : (r : Reader) → r .cr ≡ false → lineOf (fedOf r 0x0D) true ≡ lineOf r true
+unfolding fedOf lineOf crHeld
+cr-newline r none = by-cond (λ fed. lineOf fed true ≡ lineOf r true) (r .comment) (λ _. refl) (λ _. rw none refl)
+
+pub cr-held : (r : Reader) → r .comment ≡ false → r .cr ≡ false → fedOf r 0x0D .cr ≡ true
+unfolding fedOf crHeld
+cr-held r words none = rw (words, none) refl
+
+-- "anywhere else outside a comment it is an error": before another byte
+pub cr-byte : (r : Reader) (byte : ℕ) → r .comment ≡ false → r .cr ≡ true → fedOf r byte .line .bad ≡ true
+unfolding fedOf crStray spoilt
+cr-byte r byte words held = rw (words, held) refl
+
+-- "also at the very end of the input"
+pub cr-end : (r : Reader) → r .cr ≡ true → lineOf r false .bad ≡ true
+unfolding lineOf spoilt
+cr-end r held = rw held refl
+
+with-bad : (l : Line) (w : Word) → Bad l → Bad (lineWith l w)
+unfolding lineWith lettered numbered spoilt
+with-bad l w h =
+    by-cond Bad (eqb (w .size) 0) (λ _. h)
+    (λ _. by-cond Bad (eqb (l .letter) 0)
+    (λ _. by-cond Bad (isLetter w) (λ _. h) (λ _. refl))
+    (λ _. by-cond Bad (leb 65 (l .count)) (λ _. refl) (λ _. by-cond Bad (isNumber w) (λ _. h) (λ _. refl))))
+
+pub stays-bad : (r : Reader) (byte : ℕ) → r .line .bad ≡ true → fedOf r byte .line .bad ≡ true
+unfolding fedOf wordEnd crHeld crStray wordGrown spoilt
+stays-bad r byte h =
+    by-cond Spoilt (r .comment) (λ _. h)
+    (λ _. by-cond Spoilt (r .cr) (λ _. refl)
+    (λ _. by-cond Spoilt (eqb byte 0x20) (λ _. ended)
+    (λ _. by-cond Spoilt (eqb byte 0x23) (λ _. ended)
+    (λ _. by-cond Spoilt (eqb byte 0x0D) (λ _. h) (λ _. h)))))
+  where
+    ended : Bad (lineWith (r .line) (r .word))
+    ended = with-bad (r .line) (r .word) h
+
+pub ends-bad : (r : Reader) (newline : Bool) → r .line .bad ≡ true → lineOf r newline .bad ≡ true
+unfolding lineOf spoilt
+ends-bad r newline h = by-cond Bad (r .cr && not newline) (λ _. refl) (λ _. with-bad (r .line) (r .word) h)
