@@ -99,7 +99,7 @@ pub fn data_mark_at_end(density: Density, after_id: &[u16]) -> Option<u8> {
     mark_at_end(density, after_id).filter(|mark| matches!(mark, 0xFB | 0xF8))
 }
 
-/// The first data mark in the window behind an ID, and how many cells it ends after the ID's
+/// The first data mark in the window after an ID, and how many cells it ends after the ID's
 /// last. "Only the first data mark in the window is the ID's data mark."
 pub fn first_data_mark(density: Density, after_id: &[u16]) -> Option<(usize, u8)> {
     let window = density.window().min(after_id.len());

@@ -45,7 +45,7 @@ impl Kind {
         }
     }
 
-    /// Bytes behind the kind: track, side, data and flag bits.
+    /// Bytes after the kind: track, side, data and flag bits.
     pub fn body(self) -> usize {
         2 + self.length() + self.flag_bytes()
     }

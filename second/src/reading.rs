@@ -82,7 +82,7 @@ impl Machine {
         self.end()
     }
 
-    /// How many of a field's bytes stand behind its mark.
+    /// How many of a field's bytes stand after its mark.
     fn cells_after_mark(&self, field: &[u8]) -> usize {
         field.len() - field::mark_length(self.density)
     }

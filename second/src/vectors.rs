@@ -2,7 +2,7 @@
 
 use crate::crc;
 
-/// The fields of document 01, Cases, and the last of them with its own CRC behind it.
+/// The fields of document 01, Cases, and the last of them with its own CRC after it.
 const CASES: [&[u8]; 7] = [
     &[0xFE],
     &[0xFB],

@@ -12,7 +12,7 @@ fn empty_side(density: Density) -> Vec<u16> {
     vec![layout::gap(density); 2048]
 }
 
-/// Lays sector 5 of track 3 at a place, 128 bytes, its data mark byte so many cells behind the
+/// Lays sector 5 of track 3 at a place, 128 bytes, its data mark byte so many cells after the
 /// ID.
 fn put_sector(
     cells: &mut [u16],

@@ -1,21 +1,21 @@
--- What an accepted command does at once, by its kind: document 01, "Registers and commands". Assumes nothing.
+-- What an accepted command does at once, by its class: document 01, "Registers and commands". Assumes nothing.
 use mathlib.Core.Bool.{Bool, true, false, cond, not, _&&_, _||_}
 use Prim.Native.Nat.{ℕ}
-use lib.Dec.{leb}
-use Rattle.codes.specs.Bits.{bitOf, bitH, bitE, bitI0, bitI1, bitI2, bitI3}
-use Rattle.codes.specs.Times.{settleTimeOf}
-use Rattle.order.specs.declared.Command.{Command}
-use Rattle.order.specs.declared.Command.the-variants.{Restore, Seek, Step, StepIn, StepOut, ReadSector, WriteSector, ReadAddress, ReadTrack, WriteTrack, ForceInterrupt}
-use Rattle.order.specs.declared.Kind.{Kind}
-use Rattle.order.specs.declared.Kind.the-variants.{Seeks, Steps, Works, Forces}
+use Rattle.command.specs.Bits.{loadsHead, settlesFirst, forcesAtOnce, forcesAtIndex, forcesAtNotReady, forcesAtReady}
+use Rattle.command.specs.Commands.{isRestore}
+use Rattle.command.specs.Times.{settleTimeOf}
+use Rattle.command.specs.declared.Command.{Command}
+use Rattle.command.specs.declared.Command.the-variants.{Restore, Seek, Step, StepIn, StepOut, ReadSector, WriteSector, ReadAddress, ReadTrack, WriteTrack, ForceInterrupt}
+use Rattle.command.specs.declared.Class.{Class}
+use Rattle.command.specs.declared.Class.the-variants.{Seeks, Steps, Works, Forces}
 use Rattle.activity.specs.declared.Activity.{Activity}
 use Rattle.activity.specs.declared.Activity.the-variants as activity
-use Rattle.chip.specs.declared.Regs.{Regs}
-use Rattle.chip.specs.declared.Wires.{Wires}
-use Rattle.chip.specs.declared.Flags.{Flags}
-use Rattle.chip.specs.declared.Head.{Head}
-use Rattle.chip.specs.declared.Conditions.{Conditions}
-use Rattle.chip.specs.declared.Lines.{Lines}
+use Rattle.registers.specs.declared.Regs.{Regs}
+use Rattle.registers.specs.declared.Wires.{Wires}
+use Rattle.registers.specs.declared.Flags.{Flags}
+use Rattle.registers.specs.declared.Head.{Head}
+use Rattle.registers.specs.declared.Conditions.{Conditions}
+use Rattle.registers.specs.declared.Lines.{Lines}
 
 unfoldable pub writes : Command → Bool
 writes Restore = false
@@ -52,17 +52,17 @@ asksFirst ReadTrack = false
 asksFirst WriteTrack = true
 asksFirst ForceInterrupt = false
 
--- "Restore sets TR 255, DR 0 at acceptance": the bytes to 0F are Restores
-unfoldable pub beginRegs : Regs → ℕ → Regs
-beginRegs r b = cond (leb b 0x0F) (record { tr = 255; sr = r .sr; dr = 0 }) r
+-- "Restore sets TR 255, DR 0 at acceptance"
+unfoldable pub beginRegs : Regs → Command → Regs
+beginRegs r command = cond (isRestore command) (record { tr = 255; sr = r .sr; dr = 0 }) r
 
 -- "loading an accepted command turns INTRQ off", "clears .. DRQ", "ends it at once with INTRQ"; Force Interrupt: "Bit 3
 -- raises INTRQ at once"
-unfoldable pub beginWires : Wires → Bool → Bool → ℕ → Kind → Wires
+unfoldable pub beginWires : Wires → Bool → Bool → ℕ → Class → Wires
 beginWires w asks ends b Seeks = record { drq = false; intrq = false }
 beginWires w asks ends b Steps = record { drq = false; intrq = false }
 beginWires w asks ends b Works = record { drq = asks; intrq = ends }
-beginWires w asks ends b Forces = record { drq = w .drq; intrq = bitOf b bitI3 }
+beginWires w asks ends b Forces = record { drq = w .drq; intrq = forcesAtOnce b }
 
 -- "other bits .. stay; when idle, status becomes Type I with bits 3 and 4 off"
 unfoldable pub forcedFlags : Flags → Bool → Flags
@@ -78,7 +78,7 @@ forcedFlags f busy =
     })
 
 -- "An accepted command other than Force Interrupt .. clears bits 3, 4, Lost Data, type bits", "sets bit 6"
-unfoldable pub beginFlags : Flags → Bool → Bool → Kind → Flags
+unfoldable pub beginFlags : Flags → Bool → Bool → Class → Flags
 beginFlags f held busy Seeks =
     record { type1 = true; protected = false; deleted = false; missing = false; crc = false; lost = false }
 beginFlags f held busy Steps =
@@ -88,27 +88,27 @@ beginFlags f held busy Works =
 beginFlags f held busy Forces = forcedFlags f busy
 
 -- "Type I (bit 3 loads or unloads the head)", "Types II and III load the head": one that ends at once loads none (decision 7)
-unfoldable pub beginHead : Head → Bool → ℕ → Kind → Head
-beginHead h ends b Seeks = record { loaded = bitOf b bitH; inward = h .inward }
-beginHead h ends b Steps = record { loaded = bitOf b bitH; inward = h .inward }
+unfoldable pub beginHead : Head → Bool → ℕ → Class → Head
+beginHead h ends b Seeks = record { loaded = loadsHead b; inward = h .inward }
+beginHead h ends b Steps = record { loaded = loadsHead b; inward = h .inward }
 beginHead h ends b Works = record { loaded = h .loaded || not ends; inward = h .inward }
 beginHead h ends b Forces = h
 
 -- "bit 2 at each index pulse, bits 0 and 1 when Ready comes on or goes off between byte times. Any later command drops
 -- these."
-unfoldable pub beginConditions : ℕ → Kind → Conditions
+unfoldable pub beginConditions : ℕ → Class → Conditions
 beginConditions b Seeks = record { on = false; off = false; index = false }
 beginConditions b Steps = record { on = false; off = false; index = false }
 beginConditions b Works = record { on = false; off = false; index = false }
-beginConditions b Forces = record { on = bitOf b bitI0; off = bitOf b bitI1; index = bitOf b bitI2 }
+beginConditions b Forces = record { on = forcesAtReady b; off = forcesAtNotReady b; index = forcesAtIndex b }
 
 -- "settle for 469 (FM) or 938 (MFM) byte times if E is 1, then begin with the first byte time that has HLT on"
 unfoldable pub worksFrom : Bool → Bool → Bool → Activity
 worksFrom ends settles mfm = cond ends activity.Idle (cond settles (activity.Settle (settleTimeOf mfm)) (activity.Settle 0))
 
 -- "in its first byte time .. the machine decides"; "Force Interrupt ends a command: Busy off"
-unfoldable pub beginActivity : Bool → Bool → ℕ → Kind → Activity
+unfoldable pub beginActivity : Bool → Bool → ℕ → Class → Activity
 beginActivity ends mfm b Seeks = activity.Seek 1
 beginActivity ends mfm b Steps = activity.Pulse
-beginActivity ends mfm b Works = worksFrom ends (bitOf b bitE) mfm
+beginActivity ends mfm b Works = worksFrom ends (settlesFirst b) mfm
 beginActivity ends mfm b Forces = activity.Idle

@@ -1,15 +1,15 @@
-// What an accepted command does at once, by its kind.
+// What an accepted command does at once, by its class.
 ghost use mathlib.Core.Path.{_≡_};
 ghost use Rattle.accepting.specs.Accepting.{writes, heldBy, asksFirst, beginRegs, beginWires, forcedFlags, beginFlags, beginHead, beginConditions, worksFrom, beginActivity};
 use activity::Activity;
-use chip::Conditions;
-use chip::Flags;
-use chip::Head;
-use chip::Lines;
-use chip::Regs;
-use chip::Wires;
-use order::Command;
-use order::Kind;
+use command::Class;
+use command::Command;
+use registers::Conditions;
+use registers::Flags;
+use registers::Head;
+use registers::Lines;
+use registers::Regs;
+use registers::Wires;
 
 fn writes_to_disk(command: Command) -> bool
     ensures { λ r. ⌜ r ≡ writes command ⌝ }
@@ -38,10 +38,10 @@ pub fn asks(command: Command) -> bool
 }
 
 // Restore sets TR 255 and DR 0.
-pub fn begin_regs(regs: Regs, byte: u8) -> Regs
-    ensures { λ r. ⌜ r ≡ beginRegs regs byte ⌝ }
+pub fn begin_regs(regs: Regs, command: Command) -> Regs
+    ensures { λ r. ⌜ r ≡ beginRegs regs command ⌝ }
 {
-    if byte <= 0x0F {
+    if command::is_restore(command) {
         return Regs {
             tr: 255,
             sr: regs.sr,
@@ -51,21 +51,21 @@ pub fn begin_regs(regs: Regs, byte: u8) -> Regs
     regs
 }
 
-pub fn begin_wires(wires: Wires, asks: bool, ends: bool, byte: u8, kind: Kind) -> Wires
-    ensures { λ r. ⌜ r ≡ beginWires wires asks ends byte kind ⌝ }
+pub fn begin_wires(wires: Wires, asks: bool, ends: bool, byte: u8, class: Class) -> Wires
+    ensures { λ r. ⌜ r ≡ beginWires wires asks ends byte class ⌝ }
 {
-    match kind {
-        Kind::Seeks | Kind::Steps => Wires {
+    match class {
+        Class::Seeks | Class::Steps => Wires {
             drq: false,
             intrq: false,
         },
-        Kind::Works => Wires {
+        Class::Works => Wires {
             drq: asks,
             intrq: ends,
         },
-        Kind::Forces => Wires {
+        Class::Forces => Wires {
             drq: wires.drq,
-            intrq: codes::bit(byte, codes::I3),
+            intrq: command::bits::forces_at_once(byte),
         },
     }
 }
@@ -83,11 +83,11 @@ fn forced_flags(flags: Flags, busy: bool) -> Flags
     after
 }
 
-pub fn begin_flags(flags: Flags, held: bool, busy: bool, kind: Kind) -> Flags
-    ensures { λ r. ⌜ r ≡ beginFlags flags held busy kind ⌝ }
+pub fn begin_flags(flags: Flags, held: bool, busy: bool, class: Class) -> Flags
+    ensures { λ r. ⌜ r ≡ beginFlags flags held busy class ⌝ }
 {
-    match kind {
-        Kind::Seeks | Kind::Steps => Flags {
+    match class {
+        Class::Seeks | Class::Steps => Flags {
             type1: true,
             protected: false,
             deleted: false,
@@ -95,7 +95,7 @@ pub fn begin_flags(flags: Flags, held: bool, busy: bool, kind: Kind) -> Flags
             crc: false,
             lost: false,
         },
-        Kind::Works => Flags {
+        Class::Works => Flags {
             type1: false,
             protected: held,
             deleted: false,
@@ -103,36 +103,36 @@ pub fn begin_flags(flags: Flags, held: bool, busy: bool, kind: Kind) -> Flags
             crc: false,
             lost: false,
         },
-        Kind::Forces => forced_flags(flags, busy),
+        Class::Forces => forced_flags(flags, busy),
     }
 }
 
-pub fn begin_head(head: Head, ends: bool, byte: u8, kind: Kind) -> Head
-    ensures { λ r. ⌜ r ≡ beginHead head ends byte kind ⌝ }
+pub fn begin_head(head: Head, ends: bool, byte: u8, class: Class) -> Head
+    ensures { λ r. ⌜ r ≡ beginHead head ends byte class ⌝ }
 {
-    match kind {
-        Kind::Seeks | Kind::Steps => Head {
-            loaded: codes::bit(byte, codes::H),
+    match class {
+        Class::Seeks | Class::Steps => Head {
+            loaded: command::bits::loads_head(byte),
             inward: head.inward,
         },
-        Kind::Works => Head {
+        Class::Works => Head {
             loaded: head.loaded | !ends,
             inward: head.inward,
         },
-        Kind::Forces => head,
+        Class::Forces => head,
     }
 }
 
-pub fn begin_conditions(byte: u8, kind: Kind) -> Conditions
-    ensures { λ r. ⌜ r ≡ beginConditions byte kind ⌝ }
+pub fn begin_conditions(byte: u8, class: Class) -> Conditions
+    ensures { λ r. ⌜ r ≡ beginConditions byte class ⌝ }
 {
-    match kind {
-        Kind::Forces => Conditions {
-            on: codes::bit(byte, codes::I0),
-            off: codes::bit(byte, codes::I1),
-            index: codes::bit(byte, codes::I2),
+    match class {
+        Class::Forces => Conditions {
+            on: command::bits::forces_at_ready(byte),
+            off: command::bits::forces_at_not_ready(byte),
+            index: command::bits::forces_at_index(byte),
         },
-        _ => Conditions {
+        Class::Seeks | Class::Steps | Class::Works => Conditions {
             on: false,
             off: false,
             index: false,
@@ -148,18 +148,18 @@ fn works_from(ends: bool, settles: bool, mfm: bool) -> Activity
         return Activity::Idle;
     }
     if settles {
-        return Activity::Settle(codes::settle_time(mfm));
+        return Activity::Settle(command::times::settle_time(mfm));
     }
     Activity::Settle(0)
 }
 
-pub fn begin_activity(ends: bool, mfm: bool, byte: u8, kind: Kind) -> Activity
-    ensures { λ r. ⌜ r ≡ beginActivity ends mfm byte kind ⌝ }
+pub fn begin_activity(ends: bool, mfm: bool, byte: u8, class: Class) -> Activity
+    ensures { λ r. ⌜ r ≡ beginActivity ends mfm byte class ⌝ }
 {
-    match kind {
-        Kind::Seeks => Activity::Seek(1),
-        Kind::Steps => Activity::Pulse,
-        Kind::Works => works_from(ends, codes::bit(byte, codes::E), mfm),
-        Kind::Forces => Activity::Idle,
+    match class {
+        Class::Seeks => Activity::Seek(1),
+        Class::Steps => Activity::Pulse,
+        Class::Works => works_from(ends, command::bits::settles_first(byte), mfm),
+        Class::Forces => Activity::Idle,
     }
 }

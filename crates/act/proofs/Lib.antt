@@ -1,7 +1,4 @@
--- What the proofs of `act` share, and its laws for the crates above: `WithinKept` and `Quiet`.
+-- The acts that a byte time can have, and the laws over them for the crates above.
 pub mod Arms
-pub mod ScanWithin
-pub mod StepWithin
-pub mod FieldWithin
-pub mod WithinKept
-pub mod Quiet
+pub mod Acts
+pub mod Within

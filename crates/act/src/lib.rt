@@ -1,50 +1,51 @@
 // What the controller does in a byte time, over one cell: its order, its activity and what it sees give an act.
 ghost use mathlib.Core.Path.{_≡_};
-ghost use Rattle.act.specs.Turns.{begunOf, openedOf, settledOf, enteredOf, settlingOf, awaitingOf, reactedOf, actOf};
+ghost use mathlib.Core.Bool.{cond};
+ghost use Rattle.activity.specs.declared.Activity.the-variants.{Await};
+ghost use Rattle.act.specs.Turns.{jobBegun, begunActivity, settleTurn, awaitTurn, activityAct, actOf};
 use activity::Act;
 use activity::Activity;
 use activity::Deed;
 use activity::Seen;
-use order::Job;
-use order::Order;
+use command::Job;
+use command::Order;
 use scan::Scan;
 
-// What a command begins in the first byte time with HLT on.
-fn begin(job: Job) -> Activity
-    ensures { λ r. ⌜ r ≡ begunOf job ⌝ }
+// What a command begins: with the first byte time that has HLT on, the track commands at the first index pulse.
+fn begin(s: Seen, job: Job) -> Activity
+    ensures { λ r. ⌜ r ≡ jobBegun s job ⌝ }
 {
     match job {
         Job::Nothing => Activity::Idle,
         Job::Verify | Job::ReadSector | Job::WriteSector => Activity::Search(0, Scan::Gap(0)),
         Job::ReadAddress => Activity::Hunt(0, 0),
-        Job::ReadTrack | Job::WriteTrack => Activity::Await,
+        Job::ReadTrack => begin_if(s.index, Activity::TrackRead),
+        Job::WriteTrack => begin_if(s.index & !s.drq, Activity::Format(0xFFFF)),
     }
 }
 
-// What a track command begins at the first index pulse.
-fn open(job: Job, drq: bool) -> Activity
-    ensures { λ r. ⌜ r ≡ openedOf drq job ⌝ }
+fn begin_if(now: bool, activity: Activity) -> Activity
+    ensures { λ r. ⌜ r ≡ cond now activity Await ⌝ }
 {
-    match job {
-        Job::ReadTrack => Activity::TrackRead,
-        Job::WriteTrack => {
-            if drq {
-                Activity::Await
-            } else {
-                Activity::Format(0xFFFF)
-            }
-        }
-        _ => Activity::Await,
-    }
+    if now { activity } else { Activity::Await }
 }
 
-fn settled(job: Job, hlt: bool, activity: Activity) -> Activity
-    ensures { λ r. ⌜ r ≡ settledOf job hlt activity ⌝ }
+// What goes on in this byte time: what begins in it has begun before the cell is looked at.
+fn entered(o: Order, s: Seen, activity: Activity) -> Activity
+    ensures { λ r. ⌜ r ≡ begunActivity o s activity ⌝ }
 {
+    let command = o.command;
     match activity {
         Activity::Settle(left) => {
-            if (left == 0) & hlt {
-                begin(job)
+            if (left == 0) & s.hlt {
+                begin(s, command::job_of(command))
+            } else {
+                activity
+            }
+        }
+        Activity::Await => {
+            if s.index {
+                begin(s, command::job_of(command))
             } else {
                 activity
             }
@@ -53,17 +54,8 @@ fn settled(job: Job, hlt: bool, activity: Activity) -> Activity
     }
 }
 
-fn entered(job: Job, index: bool, drq: bool, activity: Activity) -> Activity
-    ensures { λ r. ⌜ r ≡ enteredOf job index drq activity ⌝ }
-{
-    match activity {
-        Activity::Await => { if index { open(job, drq) } else { activity } }
-        _ => activity,
-    }
-}
-
 fn settling(s: Seen, left: u16) -> Act
-    ensures { λ r. ⌜ r ≡ settlingOf s left ⌝ }
+    ensures { λ r. ⌜ r ≡ settleTurn s left ⌝ }
 {
     if left == 0 {
         Act {
@@ -82,7 +74,7 @@ fn settling(s: Seen, left: u16) -> Act
 
 // A pulse that has begun nothing finds a Write Track that nobody has served.
 fn awaiting(s: Seen) -> Act
-    ensures { λ r. ⌜ r ≡ awaitingOf s ⌝ }
+    ensures { λ r. ⌜ r ≡ awaitTurn s ⌝ }
 {
     if s.index {
         Act {
@@ -100,7 +92,7 @@ fn awaiting(s: Seen) -> Act
 }
 
 fn react(o: Order, s: Seen, activity: Activity) -> Act
-    ensures { λ r. ⌜ r ≡ reactedOf o s activity ⌝ }
+    ensures { λ r. ⌜ r ≡ activityAct o s activity ⌝ }
 {
     match activity {
         Activity::Idle => Act {
@@ -116,7 +108,7 @@ fn react(o: Order, s: Seen, activity: Activity) -> Act
         Activity::Window(left, passed, run) => reading::window(s, left, passed, run),
         Activity::Data(left, crc, deleted) => reading::read(
             s,
-            codes::bit(o.byte, codes::M),
+            command::bits::is_multiple(o.byte),
             left,
             crc,
             deleted,
@@ -125,26 +117,19 @@ fn react(o: Order, s: Seen, activity: Activity) -> Act
         Activity::Address(passed, crc, track) => reading::address(s, passed, crc, track),
         Activity::Await => awaiting(s),
         Activity::TrackRead => reading::track_read(s),
-        Activity::Preamble(left, passed) => writing::preamble(
-            s,
-            codes::bit(o.byte, codes::A),
-            left,
-            passed,
-        ),
-        Activity::Put(left, crc) => writing::put(s, codes::bit(o.byte, codes::M), left, crc),
+        Activity::Preamble(left, passed) => {
+            let mark = command::bits::mark_written(o.byte);
+            writing::preamble(s, scan::mark_byte(mark), left, passed)
+        }
+        Activity::Put(left, crc) => writing::put(s, command::bits::is_multiple(o.byte), left, crc),
         Activity::Format(crc) => formatting::format(s, crc),
         Activity::FormatCrc(crc) => formatting::format_crc(s, crc),
     }
 }
 
-// One byte time. What begins in it has begun before the cell is looked at, so each part has one place where it is called.
+// One byte time. Each part has one place where it is called.
 pub fn turn(o: Order, s: Seen, activity: Activity) -> Act
     ensures { λ r. ⌜ r ≡ actOf o s activity ⌝ }
 {
-    let job = o.job;
-    react(
-        o,
-        s,
-        entered(job, s.index, s.drq, settled(job, s.hlt, activity)),
-    )
+    react(o, s, entered(o, s, activity))
 }

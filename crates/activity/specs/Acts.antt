@@ -1,4 +1,4 @@
--- What a byte time leaves behind, with the cell as it is or as it is written, and what a written cell takes. Assumes nothing.
+-- What a byte time leaves: the cell as it is, or as it is written; and what a written cell takes. Assumes nothing.
 use mathlib.Core.Bool.{cond}
 use Prim.Native.Nat.{ℕ}
 use Rattle.activity.specs.declared.Seen.{Seen}

@@ -2,7 +2,25 @@
 ghost use mathlib.Core.Path.{_≡_};
 ghost use Rattle.activity.specs.Acts.{takenOf};
 ghost use Rattle.activity.specs.Limits.{busyIn, scanWithin, countsWithin};
+use command::sizes::LARGEST_SIZE;
+use command::times::SETTLING_MFM;
+use scan::LAST_ID_CELL;
+use scan::LONGEST_WINDOW;
+use scan::SYNCS;
 use scan::Scan;
+
+// The largest counts, by what gives them. A search goes on up to its fifth pulse.
+const MOST_PULSES: u8 = 4;
+
+// A data field's two CRC cells are counted with it, and a written one's FF.
+const MOST_READ: u16 = LARGEST_SIZE + 2;
+
+const MOST_WRITTEN: u16 = LARGEST_SIZE + 3;
+
+const LAST_OF_WINDOW: u8 = LONGEST_WINDOW - 1;
+
+// The mark of a written field is the 38th cell after the ID in MFM, the later density.
+const LAST_PREAMBLE: u8 = 37;
 
 // What a byte time sees: density, index pulse, the ring's last cell, lines, wires, registers and the cell that passes.
 pub struct Seen {
@@ -25,24 +43,24 @@ pub enum Activity {
     Seek(u16),
     // Step, Step-in, Step-out: the pulse is next.
     Pulse,
-    // Behind it: in so many byte times comes the stop.
+    // After it: in so many byte times comes the stop.
     Stop(u16),
-    // So many byte times are left to settle; behind them HLT is awaited.
+    // So many byte times are left to settle; after them HLT is awaited.
     Settle(u16),
     // For an ID: index pulses seen, and where the scanner stands.
     Search(u8, Scan),
-    // For a data mark: cells of its field, cells passed behind the ID, flagged A1 cells last in a row.
+    // For a data mark: cells of its field, cells passed after the ID, flagged A1 cells last in a row.
     Window(u16, u8, u8),
     // Cells left of the data field, the register, and whether its mark was the deleted one.
     Data(u16, u16, bool),
     // For an ID mark: index pulses seen, flagged A1 cells last in a row.
     Hunt(u8, u8),
-    // Cells passed behind the ID mark, the register, the track.
+    // Cells passed after the ID mark, the register, the track.
     Address(u8, u16, u8),
     // The track commands: for the first index pulse.
     Await,
     TrackRead,
-    // Cells to write from the data on, and cells passed behind the ID.
+    // Cells to write from the data on, and cells passed after the ID.
     Preamble(u16, u8),
     // Cells left to write, and the register.
     Put(u16, u16),
@@ -73,7 +91,7 @@ pub enum Deed {
     Late,
     // DR is taken, and DRQ goes on or off.
     Take(bool),
-    // A step pulse in or out, and TR behind it.
+    // A step pulse in or out, and TR after it.
     Step(bool, u8),
     // Type I stops: by the track 0 rule? Is the head loaded?
     Halt(bool, bool),
@@ -107,8 +125,8 @@ fn scan_within(scan: Scan) -> bool
     ensures { λ r. ⌜ r ≡ scanWithin scan ⌝ }
 {
     match scan {
-        Scan::Gap(run) => run <= 3,
-        Scan::Field(part) => part.passed <= 5,
+        Scan::Gap(run) => run <= SYNCS,
+        Scan::Field(part) => part.passed <= LAST_ID_CELL,
     }
 }
 
@@ -117,16 +135,18 @@ pub fn within(activity: Activity) -> bool
     ensures { λ r. ⌜ r ≡ countsWithin activity ⌝ }
 {
     match activity {
-        Activity::Seek(left) => left <= 938,
-        Activity::Stop(left) => left <= 938,
-        Activity::Settle(left) => left <= 938,
-        Activity::Search(pulses, scan) => (pulses <= 4) & scan_within(scan),
-        Activity::Window(left, passed, run) => (left <= 1026) & (passed <= 42) & (run <= 3),
-        Activity::Data(left, _, _) => left <= 1026,
-        Activity::Hunt(pulses, run) => (pulses <= 4) & (run <= 3),
-        Activity::Address(passed, _, _) => passed <= 5,
-        Activity::Preamble(left, passed) => (left <= 1027) & (passed <= 37),
-        Activity::Put(left, _) => left <= 1027,
+        Activity::Seek(left) => left <= SETTLING_MFM,
+        Activity::Stop(left) => left <= SETTLING_MFM,
+        Activity::Settle(left) => left <= SETTLING_MFM,
+        Activity::Search(pulses, scan) => (pulses <= MOST_PULSES) & scan_within(scan),
+        Activity::Window(left, passed, run) => (left <= MOST_READ)
+            & (passed <= LAST_OF_WINDOW)
+            & (run <= SYNCS),
+        Activity::Data(left, _, _) => left <= MOST_READ,
+        Activity::Hunt(pulses, run) => (pulses <= MOST_PULSES) & (run <= SYNCS),
+        Activity::Address(passed, _, _) => passed <= LAST_ID_CELL,
+        Activity::Preamble(left, passed) => (left <= MOST_WRITTEN) & (passed <= LAST_PREAMBLE),
+        Activity::Put(left, _) => left <= MOST_WRITTEN,
         _ => true,
     }
 }

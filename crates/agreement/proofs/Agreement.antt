@@ -4,42 +4,38 @@ use mathlib.Core.Path.{_≡_, refl, sym, ap, _∙_}
 use mathlib.Core.Bool.{Bool}
 use mathlib.Core.List.{List, map}
 use mathlib.Core.Logic.{_⊎_, inl, inr}
-use Prim.Native.Nat.{ℕ, suc, _+_, _-_, _%_, _≤_, _<_}
+use Prim.Native.Nat.{ℕ, _+_, _-_, _%_, _<_}
 use native.Mathlib.Nat.{mod-eq-of-lt}
 use native.Mathlib.Omega.{arith}
 use lib.ListN.{length, getD, drop, length-drop}
 use lib.Seq.{getD-drop}
 use Rattle.scan.specs.Marks.{byteOf}
 use Rattle.scan.specs.Streams.{idWidth, idFrom}
-use Rattle.scan.specs.declared.Id.{Id}
-use Rattle.codes.specs.Sizes.{sizeOf}
+use Rattle.command.specs.Sizes.{sizeOf}
 use Rattle.viewer.specs.declared.Place.{Place}
-use Rattle.viewer.specs.Views.{partOf, viewOf}
+use Rattle.viewer.specs.Views.{partOf, partCells}
 use Rattle.viewer.specs.Plain.{SectorAt, FirstSector}
 use Rattle.viewer.proofs.Views.{found-zero, found-one}
-use Rattle.order.specs.Orders.{kindOf, jobOf}
-use Rattle.order.specs.declared.Command.the-variants.{ReadSector}
+use Rattle.command.specs.Commands.{classOf}
+use Rattle.command.specs.declared.Command.the-variants.{ReadSector}
 use Rattle.accepting.specs.Accepting.{heldBy, writes}
 use Rattle.fields.specs.Rings.{cellsOf}
-use Rattle.hosts.specs.Hosts.{Desk, at}
-use Rattle.hosts.specs.Scenes.{Scene, loaded, settling, Suits}
+use Rattle.hosts.specs.Hosts.{at}
+use Rattle.hosts.specs.Scenes.{Scene, loaded, Suits}
 use Rattle.hosts.specs.Bytes.{handed}
-use Rattle.hosts.proofs.Views.{View}
-use Rattle.hosts.proofs.Searching.{reads}
-use Rattle.hosts.proofs.Accepted.{groundOf}
-use Rattle.hosts.proofs.Suits.{suits-there, suits-back}
-use Rattle.hosts.proofs.Found.{Found, Lost, searched}
-use Rattle.hosts.proofs.Commanded.{Goes, courseOf, starts}
+use Rattle.hosts.proofs.Searching.{reads-two}
+use Rattle.hosts.proofs.RingIds.{IdOnRing}
+use Rattle.hosts.proofs.Working.{Given}
+use Rattle.hosts.proofs.Found.{Lost, searched, lost-none, foundPlace, foundSize, found-on, found-cells}
+use Rattle.hosts.proofs.ReadThrough.{working, heads, FoundId, cellsOn, Meets}
 use Rattle.hosts.proofs.Collected.{listed, listed-same, listed-cells}
-use Rattle.hosts.proofs.BehindIds.{behind-cell}
-use Rattle.hosts.proofs.ReadStages.{cellsIn}
 use Rattle.hosts.proofs.ReadThrough as through
-use Rattle.hosts.proofs.ReadThrough.{Meets}
-use Rattle.hosts.proofs.CutHosts.{until, at-same, until-alone, until-ends, handed-same, late-same}
-use Rattle.in_time.specs.Demand3.{Asked, OnRing}
+use Rattle.hosts.proofs.ReadStatus as status
+use Rattle.in_time.specs.Demand3.{InTimePremises, OnRing}
+use Rattle.in_time.proofs.Hits.{id-ring}
 use Rattle.in_time.proofs.Demand3.{in-time}
 use Rattle.agreement.specs.Agreement.{Reads, shown, Finds, on-side-0, on-side-1, Viewed, CellByCell, Agrees, Agreement}
-use Rattle.agreement.proofs.SectorBehind.{in-row, deleted-told, sector-field}
+use Rattle.agreement.proofs.SectorAfter.{in-row, deleted-told, sector-field}
 
 -- ---- a sector of the track, and the command that goes by its ID
 
@@ -50,21 +46,23 @@ module _ (s : Scene) (n p from to : ℕ) (reading : Reads s n)
   abbrev mfm : Bool
   mfm = s .machine .mfm
 
-  -- under a host that makes no call behind its end
-  abbrev quiet : Scene
-  quiet = record { machine = s .machine; lines = s .lines; byte = s .byte; row = s .row; host = until (s .host) n }
-
-  goes : Goes quiet n ReadSector
-  unfolding kindOf jobOf heldBy writes
-  goes =
+  given : Given s ReadSector
+  unfolding classOf heldBy writes
+  given =
       record {
-        is = reading .reads;
+        decodes = reading .reads;
         works = refl;
-        two = reads;
         accepted = reading .accepted;
         stays = simp (reading .ready);
-        alone = until-alone (s .host) (loaded s) n (λ k l. reading .alone k (reading .ends .busy k l));
-        ends = until-ends (s .host) (loaded s) n n (omega arith) (reading .ends);
+      }
+
+  abbrev command : through.EndedRead s n
+  command =
+      record {
+        given = given;
+        alone = λ k l. reading .alone k (reading .ends .busy k l);
+        ends = reading .ends;
+        single = reading .single;
       }
 
   -- ---- it goes by that ID
@@ -72,69 +70,45 @@ module _ (s : Scene) (n p from to : ℕ) (reading : Reads s n)
   inside : p < length (s .row)
   inside = omega (arith, sector .begins, sector .ends, sector .inside)
 
-  abbrev ground : View
-  ground = groundOf quiet ReadSector
+  on-ring : IdOnRing s p
+  on-ring = record { inside = inside; stands = sector .id; suits = suits }
 
-  found : Found (courseOf goes) ground
-  found = by (searched (courseOf goes) ground (settling quiet) (starts goes))
+  found : FoundId command
+  found = by (searched (working command) reads-two (heads command))
     where
-      by : Found (courseOf goes) ground ⊎ Lost (courseOf goes) ground → Found (courseOf goes) ground
+      by : FoundId command ⊎ Lost (working command) reads-two (heads command) → FoundId command
       by (inl f) = f
-      by (inr f) =
-          absurd
-          (f .none p (idFrom mfm (cellsOf (s .row)) p)
-          (record {
-            inside = inside;
-            stands = sector .id;
-            says = refl;
-            suits = suits-back s ReadSector (idFrom mfm (cellsOf (s .row)) p) suits;
-          }))
+      by (inr f) = absurd (lost-none f p on-ring)
 
-  same-place : found .p ≡ p
+  same-place : foundPlace found ≡ p
   same-place =
-      let on = found .on-ring in
-      only
-      (record {
-        cell = found .p;
-        inside = on .inside;
-        stands = on .stands;
-        suits = suits-there s ReadSector _ (rw (← on .says) (on .suits));
-      })
-      (record { cell = p; inside = inside; stands = sector .id; suits = suits })
-
-  same-id : found .id ≡ idFrom mfm (cellsOf (s .row)) p
-  same-id = found .on-ring .says ∙ ap (idFrom mfm (cellsOf (s .row))) same-place
+      only (id-ring (found-on found)) (id-ring on-ring)
 
   -- ---- and meets its field
 
-  abbrev opened : View
-  opened = through.there goes found
-
   abbrev size : ℕ
-  size = through.size goes found
+  size = foundSize found
 
   ends : to ≡ from + size
-  ends = sector .ends ∙ ap (λ (id : Id). from + sizeOf (id .length)) (sym same-id)
+  ends =
+      sector .ends ∙ ap (λ (q : ℕ). from + sizeOf (idFrom mfm (cellsOf (s .row)) q .length)) (sym same-place)
 
   many : to - from ≡ size
   many = omega (arith, ends)
 
-  passes : (j : ℕ) → cellsIn opened j ≡ cellsOf (s .row) (p + idWidth mfm + j)
+  passes : (j : ℕ) → cellsOn command found j ≡ cellsOf (s .row) (p + idWidth mfm + j)
   passes j =
-      sym
-      (behind-cell opened (through.there-fits goes found) (found .p) (through.behind-there goes found) (s .row)
-      refl j)
+      found-cells found j
       ∙ ap (λ (q : ℕ). cellsOf (s .row) (q + idWidth mfm + j)) same-place
 
-  abbrev meets : Meets quiet n
+  abbrev meets : Meets s n
   meets =
       record {
-        goes = goes;
+        reads = command;
         found = found;
-        single = reading .single;
         mark = sector .mark;
         place = sector .cell;
-        field = sector-field mfm (s .row) _ _ p from to sector (cellsIn opened) passes size ends;
+        field = sector-field mfm (s .row) _ _ p from to sector (cellsOn command found) passes size ends;
       }
 
   -- ---- its bytes
@@ -148,19 +122,14 @@ module _ (s : Scene) (n p from to : ℕ) (reading : Reads s n)
 
   handed-cells : handed (s .host) (loaded s) n ≡ map byteOf (partOf (s .row) from to)
   handed-cells =
-      sym (handed-same (s .host) (loaded s) n n (omega arith))
-      ∙ through.handed-list meets
+      through.handed-list meets
       ∙ ap (listed (through.byte meets)) (sym many)
       ∙ listed-same (through.byte meets) (λ i. byteOf (getD (drop from (s .row)) i 0)) (to - from)
       (λ i l. byte-is i l ∙ ap byteOf (sym (getD-drop from (s .row) i 0)))
       ∙ listed-cells byteOf (drop from (s .row)) (to - from) (rw (length-drop from (s .row)) (omega (arith, sector .inside)))
 
-  -- the desk is the host's own, up to the end
-  same-desk : (k : ℕ) → k ≤ n → at (until (s .host) n) (loaded s) k ≡ at (s .host) (loaded s) k
-  same-desk = at-same (s .host) (loaded s) n
-
   handed-place : (i : ℕ) → i < to - from
-      → at (until (s .host) n) (loaded s) (through.from meets + i) .machine .ring .position ≡ from + i
+      → at (s .host) (loaded s) (through.from meets + i) .machine .ring .position ≡ from + i
   handed-place i l =
       through.handed-place meets i (omega (arith, many))
       ∙ ap (λ (q : ℕ). (q + idWidth mfm + (sector .cell + i)) % length (s .row)) same-place
@@ -172,32 +141,19 @@ module _ (s : Scene) (n p from to : ℕ) (reading : Reads s n)
       let most = through.within meets in
       record {
         within = omega (arith, many);
-        cell =
-            λ i l.
-            ap (λ (d : Desk). d .machine .ring .position)
-            (sym (same-desk (through.from meets + i) (omega (arith, many))))
-            ∙ handed-place i l;
-        byte =
-            λ i l.
-            ap (λ (d : Desk). d .machine .regs .dr)
-            (sym (same-desk (suc (through.from meets + i)) (omega (arith, many))))
-            ∙ through.handed-byte meets i (omega (arith, many))
-            ∙ byte-is i l;
+        cell = handed-place;
+        byte = λ i l. through.handed-byte meets i (omega (arith, many)) ∙ byte-is i l;
       }
 
   -- ---- all of it
 
   agrees : (s0 s1 : List ℕ) → shown s s0 s1 ≡ partOf (s .row) from to → Agrees s s0 s1 from to n
   agrees s0 s1 part =
-      let same = same-desk n (omega arith) in
       record {
         bytes = handed-cells ∙ ap (map byteOf) (sym part);
         each = (through.from meets, cell-by-cell);
-        status = λ l. rw (same, deleted-told mfm (s .row) _ _ p from to sector) at (through.told meets l);
-        lost =
-            λ on.
-            let (k, l, late) = through.late-only meets (rw same on) in
-            (k, l, late-same (s .host) (loaded s) n k l late);
+        status = λ l. rw (deleted-told mfm (s .row) _ _ p from to sector) at (status.told meets l);
+        lost = status.late-only meets;
       }
 
 -- ---- the sector that the viewer finds
@@ -210,7 +166,7 @@ module _ (s : Scene) (s0 s1 : List ℕ) (from to : ℕ) (viewed : Viewed s s0 s1
     part : shown s s0 s1 ≡ partOf (s .row) from to
 
   its : Sector
-  unfolding viewOf
+  unfolding partCells
   its = by (viewed .finds)
     where
       on : (side : List ℕ) → side ≡ s .row → shown s s0 s1 ≡ partOf side from to
@@ -221,17 +177,17 @@ module _ (s : Scene) (s0 s1 : List ℕ) (from to : ℕ) (viewed : Viewed s s0 s1
       by : Finds s s0 s1 from to → Sector
       by (on-side-0 e place) =
           let f = found-zero s0 s1 (s .machine .mfm) (s .machine .regs .tr) (s .machine .regs .sr) from to place in
-          on s0 e (ap (λ (x : Place). viewOf x s0 s1) place) (f .0) (f .1)
+          on s0 e (ap (λ (x : Place). partCells x s0 s1) place) (f .0) (f .1)
       by (on-side-1 e place) =
           let f = found-one s0 s1 (s .machine .mfm) (s .machine .regs .tr) (s .machine .regs .sr) from to place in
-          on s1 e (ap (λ (x : Place). viewOf x s0 s1) place) (f .0) (f .1)
+          on s1 e (ap (λ (x : Place). partCells x s0 s1) place) (f .0) (f .1)
 
   its-suits : Suits s (idFrom (s .machine .mfm) (cellsOf (s .row)) (its .p))
   its-suits =
       record {
         track = its .is .is .of-track;
         sector = its .is .is .of-sector;
-        side = λ c. viewed .side c (its .p) (its .is);
+        side = λ only asks. viewed .side only asks (its .p) (its .is);
         good = its .is .is .good;
       }
 
@@ -241,7 +197,7 @@ module _ (s : Scene) (s0 s1 : List ℕ) (from to : ℕ) (viewed : Viewed s s0 s1
 
   -- "where the viewer finds a sector on a track whose ID is the only one of its track and sector, a Read Sector's data bytes
   -- are those cells' bytes": of every scene of demand 3, which says that it ends
-  pub agree : Asked s → Agreement s s0 s1 from to
+  pub agree : InTimePremises s → Agreement s s0 s1 from to
   agree asked =
       let (n, ends, time) = in-time s asked in (
         n,

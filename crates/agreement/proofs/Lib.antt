@@ -1,4 +1,4 @@
 -- The viewer and the machine agree, and a track on which they do.
-pub mod SectorBehind
+pub mod SectorAfter
 pub mod Agreement
 pub mod SameBytes

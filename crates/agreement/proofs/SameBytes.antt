@@ -15,28 +15,30 @@ use Rattle.common.proofs.Arms.{range}
 use Rattle.common.proofs.Cases.{never}
 use Rattle.crc.specs.Crc.{crcBit, crcBits, crcByte, crcOver}
 use Rattle.scan.specs.Rows.{lengthWithin}
-use Rattle.scan.specs.Marks.{byteOf, leadOf, carriesMark, runOf, passedOf, markBytes, markCrc}
-use Rattle.scan.specs.DataMarks.{markByte, dataMarkOf, dataMarkIn, soughtOf, windowOf}
-use Rattle.scan.specs.Ids.{begunOf, pushedOf, wholeOf, addedOf, runIn, grownOf, lookedOf, heardOf}
+use Rattle.scan.specs.Marks.{byteOf, leadOf, carriesMark, syncRun, markStep, markBytes, markCrc}
+use Rattle.scan.specs.DataMarks.{markByte, dataMarkOf, dataMarkIn, dataMarkStep, windowOf}
+use Rattle.scan.specs.Ids.{idBegun, pushedOf, wholeOf, idByteStep, runIn, idCellStep, idMarkStep, idStep}
 use Rattle.scan.specs.Streams.{MarkAt}
-use Rattle.codes.specs.Sizes.{sizeOf}
-use Rattle.codes.specs.Bits.{bitOf}
+use Rattle.command.specs.Sizes.{sizeOf}
+use Rattle.common.specs.Bits.{bitOf}
 use Rattle.fields.specs.Rings.{cellsOf}
 use Rattle.fields.specs.Ids.{foundBy, heardIn, nextId}
 use Rattle.fields.specs.DataMarks.{metBy, soughtIn, markBehind}
 use Rattle.viewer.specs.declared.Place.{Place}
 use Rattle.viewer.specs.declared.Place.the-variants.{Zero}
-use Rattle.viewer.specs.Views.{cellsWithin, refusalOf, firstOf, placeOf, viewOf}
+use Rattle.viewer.specs.Views.{cellsWithin, viewRefusal, firstPlace, placeOf, partCells}
 use Rattle.viewer.specs.Sectors.{registerOver, spanFrom, spanMarked, spanBehind, wantedOf, spanIn, orElse, spanAmong, spanOn}
 use Rattle.viewer.proofs.Views.{cells-within}
-use Rattle.wd.specs.Machines.{freshOf, poweredOf}
+use Rattle.wd.specs.Machines.{freshMachine, powerOn}
 use Rattle.hosts.specs.Hosts.{EndsAt}
 use Rattle.hosts.specs.Scenes.{Scene, loaded}
 use Rattle.hosts.specs.Bytes.{handed}
-use Rattle.in_time.specs.Demand3.{Asked, OnRing}
+use Rattle.in_time.specs.Demand3.{InTimePremises, OnRing}
 use Rattle.in_time.proofs.Scenes.{sceneOf, scene-asked, fresh, fresh-accepts}
 use Rattle.agreement.specs.Agreement.{placeIn, on-side-0, Viewed}
 use Rattle.agreement.proofs.Agreement.{agree}
+use Rattle.reachable.proofs.Samples.{sampleLength}
+use Rattle.command.specs.Bits.{settlesFirst, isMultiple, verifiesTrack, sideOf, sideAsked, markWritten}
 
 -- cells 0 to 154: an FM ID of track 0, side 0, sector 1 and 128 bytes, a gap, a data mark, 128 times E5 and the CRC
 abbrev front : List ℕ
@@ -58,19 +60,19 @@ within : cellsWithin track ≡ true
 unfolding cellsWithin
 within = refl
 
-asked : Asked scene
-unfolding poweredOf lengthWithin freshOf
+asked : InTimePremises scene
+unfolding powerOn lengthWithin freshMachine
 asked = scene-asked (fresh false) track (fresh-accepts false) refl (cells-within track .0 within)
 
 -- the one ID of the track
 at-zero : (ring : OnRing scene) → ring .cell ≡ 0
-unfolding MarkAt cellsOf poweredOf lengthWithin freshOf
+unfolding MarkAt cellsOf powerOn lengthWithin freshMachine
 at-zero ring = by (ring .cell) (ring .inside) (ring .stands .mark .1) (decLt 0 (ring .cell)) (decLt (ring .cell) 155)
   where
     is : ℕ → Bool
     is k = eqb (getD track k 0) 0x1FE
 
-    by : (k : ℕ) → k < 2048 → getD track (k % 2048) 0 ≡ 0x1FE → Dec (0 < k) → Dec (k < 155) → k ≡ 0
+    by : (k : ℕ) → k < sampleLength → getD track (k % sampleLength) 0 ≡ 0x1FE → Dec (0 < k) → Dec (k < 155) → k ≡ 0
     by k l e (no z) other = omega arith
     by k l e (yes z) (yes h) =
         absurd
@@ -86,30 +88,30 @@ at-zero ring = by (ring .cell) (ring .inside) (ring .stands .mark .1) (decLt 0 (
 
 -- the viewer finds the sector's data cells
 finds : placeIn scene track track ≡ Zero 25 153
-unfolding placeOf refusalOf firstOf cellsWithin lengthWithin spanOn spanAmong orElse spanIn wantedOf spanBehind spanMarked
-    spanFrom registerOver nextId heardIn foundBy markBehind soughtIn metBy cellsOf heardOf lookedOf grownOf runIn
-    addedOf wholeOf pushedOf begunOf passedOf leadOf carriesMark runOf markCrc markBytes soughtOf dataMarkIn dataMarkOf
-    markByte windowOf crcOver crcByte crcBits crcBit sizeOf poweredOf freshOf
+unfolding placeOf viewRefusal firstPlace cellsWithin lengthWithin spanOn spanAmong orElse spanIn wantedOf spanBehind spanMarked
+    spanFrom registerOver nextId heardIn foundBy markBehind soughtIn metBy cellsOf idStep idMarkStep idCellStep runIn
+    idByteStep wholeOf pushedOf idBegun markStep leadOf carriesMark syncRun markCrc markBytes dataMarkStep dataMarkIn dataMarkOf
+    markByte windowOf crcOver crcByte crcBits crcBit sizeOf powerOn freshMachine
 finds = refl
 
 viewed : Viewed scene track track 25 153
-unfolding bitOf
+unfolding bitOf settlesFirst isMultiple verifiesTrack sideOf sideAsked markWritten
 viewed =
     record {
       finds = on-side-0 refl finds;
-      side = λ c. never (cc);
+      side = λ only asks. never (cc);
       only = λ a b. at-zero a ∙ sym (at-zero b);
     }
 
 -- all that is asked can be met, and there the Read Sector hands over 128 times E5
 pub same-bytes :
-    Asked scene
+    InTimePremises scene
     × Viewed scene track track 25 153
     × ((n : ℕ) × EndsAt (scene .host) (loaded scene) n × (handed (scene .host) (loaded scene) n ≡ replicate 128 0xE5))
-unfolding viewOf
+unfolding partCells
 same-bytes =
     let (n, ends, same) = agree scene track track 25 153 viewed asked in (
       asked,
       viewed,
-      (n, ends, same .bytes ∙ ap (λ (x : Place). map byteOf (viewOf x track track)) finds),
+      (n, ends, same .bytes ∙ ap (λ (x : Place). map byteOf (partCells x track track)) finds),
     )

@@ -1,48 +1,49 @@
--- The viewer and the machine agree: what is asked for a Read Sector to hand over the bytes that the viewer shows, and what is
--- promised then. Assumes nothing.
+-- The viewer and the machine agree: the premises under which a Read Sector hands over the bytes that the viewer shows, and the
+-- conclusion. Assumes nothing.
 use mathlib.Core.Path.{_≡_}
-use mathlib.Core.Bool.{true, false, cond, not}
+use mathlib.Core.Bool.{true, false, not}
 use mathlib.Core.List.{List, map}
 use Prim.Native.Nat.{ℕ, suc, _+_, _-_, _≤_, _<_}
 use lib.Dec.{eqb}
 use lib.ListN.{getD}
 use Rattle.scan.specs.Marks.{byteOf}
 use Rattle.scan.specs.Streams.{idFrom}
-use Rattle.codes.specs.Bits.{bitOf, bitM, bitS, bitC}
-use Rattle.order.specs.Commands.{decodedOf}
-use Rattle.order.specs.declared.Command.the-variants.{ReadSector}
-use Rattle.order.specs.declared.Decoded.the-variants.{Taken}
+use Rattle.command.specs.Bits.{isMultiple, sideAsked}
+use Rattle.command.specs.declared.SideAsked.the-variants.{Only}
+use Rattle.command.specs.Commands.{decodedOf}
+use Rattle.command.specs.declared.Command.the-variants.{ReadSector}
+use Rattle.command.specs.declared.Decoded.the-variants.{Taken}
 use Rattle.viewer.specs.declared.Place.{Place}
 use Rattle.viewer.specs.declared.Place.the-variants.{Zero, One}
-use Rattle.viewer.specs.Views.{placeOf, viewOf}
+use Rattle.viewer.specs.Views.{placeOf, partCells}
 use Rattle.viewer.specs.Plain.{FirstSector}
-use Rattle.chip.specs.declared.Lines.{Lines}
-use Rattle.chip.specs.Status.{bitFor}
+use Rattle.registers.specs.declared.Lines.{Lines}
+use Rattle.registers.specs.Status.{bitFor}
 use Rattle.wd.specs.declared.Machine.{Machine}
 use Rattle.wd.specs.Reads.{statusOf}
-use Rattle.wd.specs.Loads.{loadedOf}
+use Rattle.wd.specs.Loads.{loadRegister}
 use Rattle.fields.specs.Rings.{cellsOf}
 use Rattle.hosts.specs.Hosts.{at, EndsAt, Undisturbed}
 use Rattle.hosts.specs.Scenes.{Scene, loaded}
 use Rattle.hosts.specs.Bytes.{handed, LateAt}
 use Rattle.in_time.specs.Demand3.{OnRing}
 
--- ---- what it is asked of: the command
+-- ---- premises: the command
 
 -- The command of demand 3, whatever HLT does, if it ends: with HLT on throughout demand 3 says that it does.
 pub record Reads (s : Scene) (n : ℕ) : Type 0 where
   -- a single Read Sector: without m
   pub reads : decodedOf (s .byte) ≡ Taken ReadSector
-  pub single : bitOf (s .byte) bitM ≡ false
+  pub single : isMultiple (s .byte) ≡ false
   -- accepted with the drive ready
-  pub accepted : loadedOf (s .machine) (s .lines) 0 (s .byte) .number ≡ 0
+  pub accepted : loadRegister (s .machine) (s .lines) 0 (s .byte) .number ≡ 0
   pub ready : s .lines .ready ≡ true
   -- no other command accepted while it is Busy
   pub alone : Undisturbed (s .host) (loaded s)
   -- ending by itself in byte time n
   pub ends : EndsAt (s .host) (loaded s) n
 
--- ---- what it is asked of: the viewer
+-- ---- premises: the viewer
 
 -- "The viewer is lent the cells of both sides, density, track and sector": two sides, and the machine's density, TR and SR
 abbrev pub placeIn : Scene → List ℕ → List ℕ → Place
@@ -50,7 +51,7 @@ placeIn s s0 s1 = placeOf s0 s1 (s .machine .mfm) (s .machine .regs .tr) (s .mac
 
 -- "and hands back the data cells"
 abbrev pub shown : Scene → List ℕ → List ℕ → List ℕ
-shown s s0 s1 = viewOf (placeIn s s0 s1) s0 s1
+shown s s0 s1 = partCells (placeIn s s0 s1) s0 s1
 
 -- it finds the sector on the side that is the scene's track: its data cells are those from one up to another
 pub data Finds (s : Scene) (s0 s1 : List ℕ) (from to : ℕ) : Type 0 where
@@ -61,22 +62,23 @@ pub data Finds (s : Scene) (s0 s1 : List ℕ) (from to : ℕ) : Type 0 where
 pub record Viewed (s : Scene) (s0 s1 : List ℕ) (from to : ℕ) : Type 0 where
   pub finds : Finds s s0 s1 from to
   -- with C the sector's side is S: the viewer compares no side, so it is asked of the ID that it found, from cell p on
-  pub side : bitOf (s .byte) bitC ≡ true
+  pub side : (only : ℕ)
+      → sideAsked (s .byte) ≡ Only only
       → (p : ℕ)
       → FirstSector (s .machine .mfm) (s .row) (s .machine .regs .tr) (s .machine .regs .sr) p from to
-      → idFrom (s .machine .mfm) (cellsOf (s .row)) p .side ≡ cond (bitOf (s .byte) bitS) 1 0
-  -- "the only one of its track and sector": no two IDs on the whole ring, over its end or not, match with a good CRC. One
+      → idFrom (s .machine .mfm) (cellsOf (s .row)) p .side ≡ only
+  -- the only one of its track and sector: no two IDs on the whole ring, over its end or not, match with a good CRC. One
   -- with a bad CRC does not count, nor, with C, one of the other side.
   pub only : (a b : OnRing s) → a .cell ≡ b .cell
 
--- ---- what it promises
+-- ---- conclusion
 
--- the machine behind byte time n
+-- the machine after byte time n
 abbrev pub readBy : Scene → ℕ → Machine
 readBy s n = at (s .host) (loaded s) n .machine
 
 -- "Each data byte, flags ignored, goes to DR" as its cell passes: byte time r + i, counted from 0, is over cell from + i, and
--- DR behind it is the byte there. The viewer takes nothing past the last cell, so these do not go round.
+-- DR after it is the byte there. The viewer takes nothing past the last cell, so these do not go round.
 pub record CellByCell (s : Scene) (from to n r : ℕ) : Type 0 where
   pub within : r + (to - from) ≤ n
   pub cell : (i : ℕ) → i < to - from → readBy s (r + i) .ring .position ≡ from + i

@@ -2,13 +2,13 @@
 use mathlib.Core.Bool.{Bool, cond}
 use Prim.Native.Nat.{ℕ, _/_, _%_}
 use lib.Dec.{eqb}
-use Rattle.chip.specs.declared.Lines.{Lines}
-use Rattle.chip.specs.declared.Pulse.{Pulse}
-use Rattle.chip.specs.declared.Pulse.the-variants as pulse
+use Rattle.registers.specs.declared.Lines.{Lines}
+use Rattle.registers.specs.declared.Pulse.{Pulse}
+use Rattle.registers.specs.declared.Pulse.the-variants as pulse
 
 -- "bit 0 Ready, bit 1 protect, bit 2 track 0, bit 3 head-loaded (HLT)"
-abbrev pub linesOf : ℕ → Lines
-linesOf bits =
+abbrev pub driveLines : ℕ → Lines
+driveLines bits =
     record {
       ready = eqb (bits % 2) 1;
       protect = eqb (bits / 2 % 2) 1;

@@ -3,9 +3,9 @@ ghost use mathlib.Core.Path.{_≡_};
 ghost use Rattle.bench.specs.States.{stateOf};
 use crate::output;
 use crate::output::Buffer;
-use chip::Lines;
-use chip::Regs;
-use chip::Wires;
+use registers::Lines;
+use registers::Regs;
+use registers::Wires;
 use wd::Machine;
 use wd::Tally;
 

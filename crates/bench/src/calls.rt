@@ -1,12 +1,13 @@
 // The lines that work the controller, each one call of the library.
 ghost use mathlib.Core.Path.{_≡_};
-ghost use Rattle.bench.specs.Numbers.{linesOf, pulseByte};
-ghost use Rattle.bench.specs.Rows.{Room, Fits};
+ghost use Rattle.bench.specs.Numbers.{driveLines, pulseByte};
+ghost use Rattle.bench.specs.Rows.{Room, RowsFit};
 use crate::answers::Answer;
 use crate::rows::Rows;
-use chip::Lines;
-use chip::Pulse;
-use chip::Ring;
+use registers::Lines;
+use registers::Pulse;
+use registers::Ring;
+use scan::SHORTEST_ROW;
 use script::Call;
 use script::Request;
 use wd::Machine;
@@ -19,7 +20,7 @@ pub struct Answered {
 
 // Drive lines by the bits of a number: Ready, protect, track 0, HLT.
 pub fn lines_of(bits: u8) -> Lines
-    ensures { λ r. ⌜ r ≡ linesOf bits ⌝ }
+    ensures { λ r. ⌜ r ≡ driveLines bits ⌝ }
 {
     Lines {
         ready: bits % 2 == 1,
@@ -29,9 +30,9 @@ pub fn lines_of(bits: u8) -> Lines
     }
 }
 
-// Before the first power-on: the FM machine of 2,048 cells.
+// Before the first power-on: the FM machine of the shortest row.
 pub fn start() -> Machine {
-    let started = Machine::power_on(2048, false);
+    let started = Machine::power_on(SHORTEST_ROW as u16, false);
     started.machine
 }
 
@@ -142,7 +143,7 @@ pub fn answer(
     rows: Rows,
     cells: &mut [u16],
 ) -> Answered
-    requires { ⌜ Fits rows × Room (now cells) ⌝ }
+    requires { ⌜ RowsFit rows × Room (now cells) ⌝ }
 {
     match request {
         Request::PowerOn { mfm, length } => {

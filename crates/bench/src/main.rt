@@ -64,7 +64,7 @@ fn run(cells: &mut Cells, buffer: &mut Buffer, out: &mut Buffer) {
 }
 
 fn main() {
-    let mut cells = [0x00FFu16; 12800];
+    let mut cells = [0x00FFu16; rows::BOTH];
     let mut buffer = io::large_buffer();
     let mut out = io::large_buffer();
     run(&mut cells, &mut buffer, &mut out);

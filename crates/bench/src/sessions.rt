@@ -1,6 +1,6 @@
 // A session: the rows and the drive lines, and what each line of the script comes to.
 ghost use Prim.Native.Nat.{_≤_};
-ghost use Rattle.bench.specs.Rows.{Fits};
+ghost use Rattle.bench.specs.Rows.{RowsFit};
 use crate::answers;
 use crate::calls;
 use crate::calls::Answered;
@@ -10,7 +10,8 @@ use crate::rows::Cells;
 use crate::rows::Rows;
 use crate::tasks;
 use crate::views;
-use chip::Lines;
+use registers::Lines;
+use scan::SHORTEST_ROW;
 use script::Line;
 use script::Request;
 use script::Task;
@@ -23,15 +24,15 @@ pub struct Session {
     pub failed: bool,
 }
 
-// Before the first line: rows of 2,048 cells, and all drive lines off.
+// Before the first line: two shortest rows, and all drive lines off.
 pub fn start() -> Session
-    ensures { λ r. ⌜ Fits (r .rows) ⌝ }
+    ensures { λ r. ⌜ RowsFit (r .rows) ⌝ }
 {
     Session {
         rows: Rows {
             at: 0,
-            current: 2048,
-            other: 2048,
+            current: SHORTEST_ROW,
+            other: SHORTEST_ROW,
         },
         lines: calls::lines_of(0),
         waiting: 0,
@@ -47,8 +48,8 @@ fn work_rows(
     cells: &mut Cells,
     out: &mut Buffer,
 ) -> Session
-    requires { ⌜ Fits (session .rows) × (line .count ≤ 65) ⌝ }
-    ensures { λ r. ⌜ Fits (r .rows) ⌝ }
+    requires { ⌜ RowsFit (session .rows) × (line .count ≤ 65) ⌝ }
+    ensures { λ r. ⌜ RowsFit (r .rows) ⌝ }
 {
     let worked = tasks::carry_out(session.rows, line, task, cells);
     let rows = worked.rows;
@@ -70,8 +71,8 @@ pub fn carry_out(
     cells: &mut Cells,
     out: &mut Buffer,
 ) -> Session
-    requires { ⌜ Fits (session .rows) × (line .count ≤ 65) ⌝ }
-    ensures { λ r. ⌜ Fits (r .rows) ⌝ }
+    requires { ⌜ RowsFit (session .rows) × (line .count ≤ 65) ⌝ }
+    ensures { λ r. ⌜ RowsFit (r .rows) ⌝ }
 {
     let rows = session.rows;
     let mut next = session;
@@ -111,8 +112,8 @@ pub fn tell(
     answered: Answered,
     out: &mut Buffer,
 ) -> Session
-    requires { ⌜ Fits (session .rows) ⌝ }
-    ensures { λ r. ⌜ Fits (r .rows) ⌝ }
+    requires { ⌜ RowsFit (session .rows) ⌝ }
+    ensures { λ r. ⌜ RowsFit (r .rows) ⌝ }
 {
     match request {
         Request::PowerOn { .. } | Request::SetLines { .. } | Request::Controller(_) => {

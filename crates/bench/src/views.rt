@@ -1,7 +1,8 @@
 // What the viewer says of the two rows.
 ghost use Prim.Native.Nat.{_≤_};
 ghost use lib.ListN.{length};
-ghost use Rattle.bench.specs.Rows.{Room, Fits};
+ghost use Rattle.scan.specs.Rows.{longestRow};
+ghost use Rattle.bench.specs.Rows.{Room, RowsFit};
 use crate::output;
 use crate::output::Buffer;
 use crate::rows::ROOM;
@@ -17,7 +18,7 @@ fn put_view<'a>(
     track: u8,
     sector: u8,
 ) -> u16
-    requires { ⌜ (length (now side0) ≤ 6400) × (length (now side1) ≤ 6400) ⌝ }
+    requires { ⌜ (length (now side0) ≤ longestRow) × (length (now side1) ≤ longestRow) ⌝ }
 {
     let number = viewer::number(side0, side1, mfm, track, sector);
     let part = viewer::view(side0, side1, mfm, track, sector);
@@ -37,7 +38,7 @@ pub fn print(
     track: u8,
     sector: u8,
 ) -> u16
-    requires { ⌜ Fits rows × Room (now cells) ⌝ }
+    requires { ⌜ RowsFit rows × Room (now cells) ⌝ }
 {
     let from0 = rows.at;
     let to0 = from0 + rows.current;

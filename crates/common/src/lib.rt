@@ -1,1 +1,1 @@
-// No code: the lemmas that the proofs of every crate share stand in proofs/.
+// No code: definitions that several crates share stand in specs/, and the lemmas that all proofs share in proofs/.

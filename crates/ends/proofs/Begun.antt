@@ -1,34 +1,34 @@
--- Every command ends: what holds of each behind its acceptance. Assumes nothing.
+-- Every command ends: what holds of each after its acceptance. Assumes nothing.
 use mathlib.Core.Path.{_≡_, sym, subst}
 use Prim.Native.Nat.{ℕ, _<_}
 use native.Mathlib.Omega.{arith}
-use lib.Dec.{leb}
 use Rattle.common.proofs.Cases.{by-cond}
-use Rattle.order.specs.declared.Command.{Command}
-use Rattle.chip.specs.declared.Regs.{Regs}
+use Rattle.command.specs.declared.Command.{Command}
+use Rattle.registers.specs.declared.Regs.{Regs}
 use Rattle.accepting.specs.Accepting.{beginRegs}
 use Rattle.wd.specs.declared.Machine.{Machine}
-use Rattle.wd.specs.Loads.{begunOf}
-use Rattle.growth.proofs.Valid.{Valid, load-valid}
+use Rattle.wd.specs.Loads.{commandBegun}
+use Rattle.reachable.proofs.Valid.{Valid, load-valid}
 use Rattle.hosts.specs.Hosts.{at}
 use Rattle.hosts.specs.Scenes.{Scene, loaded}
 use Rattle.hosts.proofs.Views.{at-valid}
 use Rattle.hosts.proofs.Accepted.{accepted-valid, accepted-machine}
-use Rattle.ends.specs.Ends.{Asked}
+use Rattle.ends.specs.Ends.{EndPremises}
 use Rattle.ends.proofs.Drains.{Led}
+use Rattle.command.specs.Commands.{isRestore}
 
--- behind the acceptance
+-- after the acceptance
 abbrev pub begunBy : Scene → Command → Machine
-begunBy s command = begunOf (s .machine) (s .lines) (s .byte) command
+begunBy s command = commandBegun (s .machine) (s .lines) (s .byte) command
 
-module _ {s : Scene} {command : Command} (asked : Asked s command) where
+module _ {s : Scene} {command : Command} (asked : EndPremises s command) where
   pub started : loaded s .machine ≡ begunBy s command
   started = accepted-machine (s .machine) (s .lines) (s .byte) (asked .accepted) command (asked .decodes)
 
   pub begun-low : (begunBy s command .regs .tr < 256) × (begunBy s command .regs .dr < 256)
-  unfolding begunOf beginRegs
+  unfolding commandBegun beginRegs
   begun-low =
-      by-cond (λ (r : Regs). (r .tr < 256) × (r .dr < 256)) (leb (s .byte) 0x0F)
+      by-cond (λ (r : Regs). (r .tr < 256) × (r .dr < 256)) (isRestore command)
       (λ e. (omega arith, omega arith))
       (λ e. (asked .tr, asked .dr))
 

@@ -6,13 +6,13 @@ use native.Mathlib.Decide.{decLt}
 use native.Mathlib.Omega.{arith}
 use lib.ListN.{length, getD, length-set}
 use Rattle.activity.specs.Limits.{busyIn}
-use Rattle.chip.specs.declared.Regs.{Regs}
-use Rattle.deeds.specs.Deeds.{regsAfter}
+use Rattle.registers.specs.declared.Regs.{Regs}
+use Rattle.effects.proofs.Apart.{regsAfter}
 use Rattle.wd.proofs.Valid.{valid-ring, next-length}
-use Rattle.growth.proofs.Valid.{Valid}
+use Rattle.reachable.proofs.Valid.{Valid}
 use Rattle.hosts.specs.Hosts.{Host, Desk, servedAt, at, Alone, EndsAt, BusyAt}
 use Rattle.hosts.proofs.Views.{View, viewOf, Outside, outsideAt, actIn, stepOf, DoneAt, next-view, at-valid, done-at}
-use Rattle.hosts.proofs.Course.{regs-view}
+use Rattle.hosts.proofs.ByteTimes.{regs-view}
 use Rattle.hosts.proofs.DrByte.{found-byte}
 use Rattle.hosts.proofs.LowRows.{LowRow, set-low}
 use Rattle.ends.proofs.Left.{leftOf, Counted, seeks}
@@ -67,7 +67,7 @@ abbrev pub Steady : Host → Desk → Type 0
 Steady h d = (n : ℕ) → servedAt h n (at h d n) .machine .regs .dr ≡ at h d n .machine .regs .dr
 
 module _ (h : Host) (d : Desk) (led : Led h d) (target : ℕ) where
-  -- what holds behind t byte times
+  -- what holds after t byte times
   pub record Sound (t : ℕ) : Type 0 where
     pub whole : length (at h d t .row) ≡ at h d t .machine .ring .length
     pub low : LowRow (at h d t .row)

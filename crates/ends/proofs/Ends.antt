@@ -4,40 +4,37 @@ use mathlib.Core.Logic.{inl, inr}
 use Prim.Native.Nat.{_-_, _*_}
 use native.Mathlib.Omega.{arith}
 use lib.ListN.{length}
-use Rattle.order.specs.Orders.{kindOf, jobOf}
-use Rattle.order.specs.declared.Command.{Command}
-use Rattle.order.specs.declared.Command.the-variants.{Restore, Seek, Step, StepIn, StepOut}
-use Rattle.order.specs.declared.Command.the-variants.{ReadSector, WriteSector, ReadAddress, ReadTrack, WriteTrack}
-use Rattle.order.specs.declared.Command.the-variants.{ForceInterrupt}
+use Rattle.command.specs.Commands.{classOf, jobOf}
+use Rattle.command.specs.declared.Command.{Command}
+use Rattle.command.specs.declared.Command.the-variants.{Restore, Seek, Step, StepIn, StepOut, ReadSector, WriteSector, ReadAddress, ReadTrack, WriteTrack, ForceInterrupt}
 use Rattle.activity.specs.Limits.{busyIn}
 use Rattle.accepting.specs.Accepting.{beginActivity}
 use Rattle.wd.specs.declared.Machine.{Machine}
-use Rattle.wd.specs.Loads.{begunOf}
+use Rattle.wd.specs.Loads.{commandBegun}
 use Rattle.hosts.specs.Hosts.{at}
 use Rattle.hosts.specs.Scenes.{Scene, loaded}
 use Rattle.hosts.proofs.Searching.{reads, writes as writes-sector}
 use Rattle.hosts.proofs.Intrq.{ends-told}
-use Rattle.ends.specs.Ends.{Asked, KeepsTarget, fiveRounds, boundOf, Ends}
+use Rattle.ends.specs.Ends.{EndPremises, KeepsTarget, fiveRounds, boundOf, Ends}
 use Rattle.ends.proofs.Left.{begunLeft, reads-track, writes-track}
 use Rattle.ends.proofs.Drains.{Over, over-now, later, over-ends}
 use Rattle.ends.proofs.Begun.{started}
 use Rattle.ends.proofs.TypeOne.{seeks-over, steps-over, steady-by, restore-most, seek-most}
 use Rattle.ends.proofs.Settled.{track-over, worked-over}
-use Rattle.ends.proofs.Sectors.{sector-over}
-use Rattle.ends.proofs.Addresses.{address-over}
+use Rattle.ends.proofs.Sectors.{sector-over, address-over}
 
-forced-over : (s : Scene) (asked : Asked s ForceInterrupt) → Over (s .host) (loaded s) 0 0
-unfolding at begunOf kindOf beginActivity busyIn
+forced-over : (s : Scene) (asked : EndPremises s ForceInterrupt) → Over (s .host) (loaded s) 0 0
+unfolding at commandBegun classOf beginActivity busyIn
 forced-over s asked =
     over-now (s .host) (loaded s) 0 (omega arith)
     (ap (λ (m : Machine). busyIn (m .activity)) (started asked))
 
 over-by :
     (s : Scene) (command : Command)
-    → Asked s command
+    → EndPremises s command
     → KeepsTarget s command
     → Over (s .host) (loaded s) 0 (boundOf s command)
-unfolding boundOf kindOf jobOf begunLeft
+unfolding boundOf classOf jobOf begunLeft
 over-by s Restore asked keeps =
     later (s .host) (loaded s)
     (omega (arith, restore-most s asked))
@@ -72,7 +69,7 @@ over-by s ForceInterrupt asked keeps = later (s .host) (loaded s) (omega arith) 
 
 -- "With HLT on, every accepted command without m ends by itself within a stated number of byte times": whatever Ready,
 -- protect and track 0 are on the way, and whatever else the host calls.
-pub ends : (s : Scene) (command : Command) → Asked s command → KeepsTarget s command → Ends s command
+pub ends : (s : Scene) (command : Command) → EndPremises s command → KeepsTarget s command → Ends s command
 ends s command asked keeps =
     let (n, ending, soon) = over-ends (s .host) (loaded s) (over-by s command asked keeps) in (
       n,

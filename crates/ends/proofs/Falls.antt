@@ -1,92 +1,254 @@
 -- Each byte time of a command leaves it fewer byte times, with HLT on; the cells that it writes are none above 511.
 -- Assumes nothing.
-use mathlib.Core.Path.{_≡_, refl, sym, subst}
-use mathlib.Core.Bool.{Bool, true, cond, _&&_}
-use Prim.Native.Nat.{ℕ, zero, suc, _-_}
+use mathlib.Core.Path.{_≡_, refl}
+use mathlib.Core.Bool.{true, false, cond, not, _&&_, _||_}
+use Prim.Native.Nat.{ℕ, zero, suc, _+_, _-_, _*_, _%_, _≤_, _<_}
+use native.Mathlib.Nat.{mod-eq-of-lt}
 use native.Mathlib.Omega.{arith}
-use lib.Dec.{eqb}
-use borrow.Author.Tests.{ne-eqb}
-use Rattle.common.proofs.Cases.{never}
-use Rattle.scan.specs.DataMarks.{soughtOf}
-use Rattle.codes.specs.Bits.{bitOf, bitM, bitA}
-use Rattle.order.specs.declared.Job.{Job}
-use Rattle.order.specs.declared.Job.the-variants as job
-use Rattle.activity.specs.Acts.{pass}
+use lib.Dec.{ltb, leb, eqb}
+use borrow.Author.Tests.{ltb-true, ltb-false, lt-ltb, lt-leb, eqb-false, ne-eqb}
+use Rattle.common.proofs.Cases.{by-cond, never}
+use Rattle.crc.specs.Crc.{preset}
+use Rattle.crc.proofs.Laws.{byte-below}
+use Rattle.scan.specs.DataMarks.{markByte}
+use Rattle.command.specs.Bits.{markWritten}
+use Rattle.command.specs.Commands.{jobOf}
+use Rattle.command.specs.Times.{stepTimeOf}
+use Rattle.command.specs.declared.Job.{Job}
+use Rattle.command.proofs.Tables.{step-time-some}
+use Rattle.activity.specs.Acts.{pass, write, takenOf}
 use Rattle.activity.specs.Limits.{busyIn}
+use Rattle.activity.specs.declared.Act.{Act}
 use Rattle.activity.specs.declared.Activity.{Activity}
-use Rattle.activity.specs.declared.Activity.the-variants.{Idle, Seek, Pulse, Stop, Settle, Search, Window, Data, Hunt}
-use Rattle.activity.specs.declared.Activity.the-variants.{Address, Await, TrackRead, Preamble, Put, Format, FormatCrc}
-use Rattle.activity.specs.declared.Deed.the-variants.{Nothing}
-use Rattle.reading.specs.Reading.{awaitedOf}
-use Rattle.act.specs.Turns.{begunOf, settledOf, enteredOf, settlingOf, reactedOf, actOf}
-use Rattle.ends.proofs.Left.{begunLeft, leftOf, Plain, verifies, reads-track, writes-track, Counted, seeks, fifth-most}
-use Rattle.ends.proofs.Moments.{Moment, ringAt, mfmAt, orderAt, seenAt, regsAt, left, Aims, Good, passes, size, reacts}
-use Rattle.ends.proofs.Moments.{enters}
-use Rattle.ends.proofs.Moments.{more-left, some}
-use Rattle.ends.proofs.StepsFall.{seeks-on, pulses, stops-on, searching, begun-search}
-use Rattle.ends.proofs.ReadsFall.{opens, reads-on, addresses}
-use Rattle.ends.proofs.TracksFall.{reads-cells, formats, formats-crc, awaits, await-most}
-use Rattle.ends.proofs.WritesFall.{prepares, puts}
+use Rattle.activity.specs.declared.Activity.the-variants.{Idle, Settle, Await, TrackRead}
+use Rattle.activity.specs.declared.Deed.{Deed}
+use Rattle.stepping.specs.Stepping.{trackAfter}
+use Rattle.search.specs.Search.{pulsesSeen, afterMatch, afterRecord}
+use Rattle.writing.specs.Writing.{lastKept, lastZero, markPlace, markCell, preambleCell}
+use Rattle.formatting.specs.Formatting.{presets, laidCell, laidCrc}
+use Rattle.act.specs.Turns.{jobBegun, actOf}
+use Rattle.act.proofs.Acts.{Stops, Passes, Writes, Acts, Enters, enters, turns}
+use Rattle.registers.specs.Rings.{ringNext}
+use Rattle.effects.specs.Effects.{stepped, effectOf}
+use Rattle.effects.proofs.Apart.{regsAfter}
+use Rattle.hosts.proofs.DataFields.{mark-byte, mark-word}
+use Rattle.ends.specs.Ends.{apart}
+use Rattle.ends.proofs.Left.{Next, to-start, onward, next-place, toFifth, verifyLeft, begunLeft, down, toEnd, leftOf, Plain, verifies, reads-track, writes-track, Counted, seeks, fifth-most, fifth-some, fifth-nearer}
+use Rattle.ends.proofs.Moments.{Moment, ringAt, mfmAt, orderAt, seenAt, regsAt, left, behind, Aims, Low, Word, Good, writes, passes, ends, more-left, size, some, index, taken-byte}
+
+-- "TR moves by one towards DR"
+nearer : (tr dr : ℕ) → tr < 256 → dr < 256 → (tr ≡ dr → ⊥) → suc (apart (trackAfter true (ltb tr dr) tr) dr) ≡ apart tr dr
+unfolding trackAfter apart
+nearer tr dr low high other =
+    by-cond (λ n. suc (apart n dr) ≡ apart tr dr) (ltb tr dr)
+    (λ e.
+    let less : tr < dr = ltb-true _ _ e in
+    let moved : (tr + 1) % 256 ≡ tr + 1 = mod-eq-of-lt (omega arith) in
+    rw moved (omega arith))
+    (λ e.
+    let more : dr ≤ tr = ltb-false _ _ e in
+    let moved : (tr + 255) % 256 ≡ tr - 1 = omega arith in
+    rw moved (omega arith))
 
 module _ (x : Moment) where
-  -- ---- settling, and what begins behind it
+  -- ---- what is left
 
-  settles-on : (n : ℕ) → Plain (orderAt x .job) → Good x (left x (Settle (suc n))) (settlingOf (seenAt x) (suc n))
-  unfolding settlingOf leftOf Counted seeks
-  settles-on n plain =
-      let less : cond (eqb (suc n) 0) 0 (suc n - 1) ≡ n = rw (ne-eqb (suc n) 0 (omega arith)) (omega arith) in
-      subst (λ (k : ℕ). Good x (left x (Settle (suc n))) (pass (seenAt x) (Settle k) Nothing)) (sym less)
-      (passes x _ (Settle n) Nothing (rw (size x) (omega arith)) plain refl)
+  -- Type I stops with its verify still to come
+  stops-left : {a : Activity} → Stops a → Counted (orderAt x) a
+      → (jobOf (orderAt x .command) ≡ Job.Verify) × (verifyLeft (orderAt x) (mfmAt x) (ringAt x .length) < left x a)
+  unfolding leftOf Counted
+  stops-left Stops.seek counted = (counted, omega arith)
+  stops-left Stops.pulse counted = (counted, omega arith)
+  stops-left Stops.stop counted = (counted, omega arith)
 
-  begins : (j : Job) → Plain j → orderAt x .job ≡ j
-      → Good x (begunLeft j (ringAt x .length)) (reacts x (enters x j (begunOf j)))
-  unfolding begunLeft begunOf
-  begins job.Verify verifies e =
-      more-left x (fifth-most (ringAt x) (x .inside) (some x)) (begun-search x e)
-  begins job.ReadTrack reads-track e = more-left x (await-most x) (awaits x job.ReadTrack)
-  begins job.WriteTrack writes-track e = more-left x (await-most x) (awaits x job.WriteTrack)
+  step-time : down (stepTimeOf (mfmAt x) (orderAt x .byte)) ≡ stepTimeOf (mfmAt x) (orderAt x .byte)
+  step-time = omega (arith, step-time-some (mfmAt x) (orderAt x .byte))
 
-  settles : (n : ℕ) → Plain (orderAt x .job) → Good x (left x (Settle n)) (actOf (orderAt x) (seenAt x) (Settle n))
-  unfolding actOf settledOf enteredOf reactedOf leftOf
-  settles zero plain =
-      subst
-      (λ (hlt : Bool).
-      Good x (left x (Settle 0))
-      (reacts x (enters x (orderAt x .job) (cond hlt (begunOf (orderAt x .job)) (Settle 0)))))
-      (sym (x .hlt))
-      (more-left x (omega arith) (begins (orderAt x .job) plain refl))
-  settles (suc n) plain =
-      subst
-      (λ (none : Bool).
-      Good x (left x (Settle (suc n)))
-      (reacts x
-      (enters x (orderAt x .job) (cond (none && x .outside .hlt) (begunOf (orderAt x .job)) (Settle (suc n))))))
-      (sym (ne-eqb (suc n) 0 (omega arith)))
-      (settles-on n plain)
+  fifth-left : (n : ℕ) → 0 < toFifth n (ringAt x)
+  fifth-left = fifth-some (ringAt x) (x .inside) (some x)
 
-  -- ---- all of them
+  fifth-falls : (n : ℕ) → pulsesSeen n (index x) < 5 → toFifth (pulsesSeen n (index x)) (ringNext (ringAt x)) < toFifth n (ringAt x)
+  fifth-falls n few = fifth-nearer (ringAt x) (x .inside) (some x) n (lt-leb 5 _ few)
 
-  pub acts :
-      (a : Activity)
+  await-falls : index x ≡ false → behind x Deed.Nothing Await < left x Await
+  unfolding leftOf
+  await-falls off = by (next-place (ringAt x) (x .inside))
+    where
+      by : Next (ringAt x) → behind x Deed.Nothing Await < left x Await
+      by (to-start e there) = rw (there, off) (omega arith)
+      by (onward e there) = rw (there, off, ne-eqb (suc (ringAt x .position)) 0 (omega arith)) (omega arith)
+
+  -- a cell of a track, of which the last ends the command
+  track-falls : (cell : ℕ) (next : Activity) (deed : Deed) → cell ≤ 511 → Counted (orderAt x) next → seeks next ≡ false
+      → behind x deed next ≡ toEnd (ringNext (ringAt x))
+      → Good x (toEnd (ringAt x)) (write cell (cond (seenAt x .last) Idle next) deed)
+  unfolding leftOf Counted seeks ringNext
+  track-falls cell next deed low counted still is =
+      by-cond (λ a. Good x (toEnd (ringAt x)) (write cell a deed)) (seenAt x .last)
+      (λ e. writes x _ cell Idle deed low (omega (arith, x .inside)) tt refl)
+      (λ e.
+      let there : toEnd (ringNext (ringAt x)) < toEnd (ringAt x) = simp (lt-ltb _ _ (x .inside), e) (omega (arith, x .inside)) in
+      writes x _ cell next deed low (omega (arith, is)) counted still)
+
+  -- ---- what is written
+
+  mark-low : markByte (markWritten (orderAt x .byte)) < 256
+  mark-low = omega (arith, mark-byte (markWritten (orderAt x .byte)) .1)
+
+  preamble-low : (n : ℕ) → preambleCell (mfmAt x) n (markByte (markWritten (orderAt x .byte))) (seenAt x .cell) ≤ 511
+  unfolding preambleCell markCell
+  preamble-low n =
+      by-cond Low (leb n (lastKept (mfmAt x))) (λ e. x .low)
+      (λ e.
+      by-cond Low (leb n (lastZero (mfmAt x))) (λ f. omega arith)
+      (λ f.
+      by-cond Low (ltb n (markPlace (mfmAt x))) (λ g. omega arith)
+      (λ g. by-cond Low (mfmAt x) (λ m. omega (arith, mark-low)) (λ m. omega (arith, mark-low)))))
+
+  laid-low : (b : ℕ) → b < 256 → laidCell (mfmAt x) b ≤ 511
+  unfolding laidCell
+  laid-low b h =
+      by-cond Low (mfmAt x)
+      (λ m. by-cond Low (eqb b 0xF5) (λ e. omega arith) (λ e. by-cond Low (eqb b 0xF6) (λ f. omega arith) (λ f. omega arith)))
+      (λ m. by-cond Low (presets b || eqb b 0xFC) (λ e. omega arith) (λ e. omega arith))
+
+  laid-word : (crc b : ℕ) → crc < 65536 → b < 256 → laidCrc (mfmAt x) crc b < 65536
+  unfolding laidCrc
+  laid-word crc b word h =
+      by-cond Word (mfmAt x)
+      (λ m.
+      by-cond Word (eqb b 0xF5) (λ e. omega arith)
+      (λ e. by-cond Word (eqb b 0xF6) (λ f. byte-below crc 0xC2 word (omega arith)) (λ f. byte-below crc b word h)))
+      (λ m. by-cond Word (presets b) (λ e. byte-below preset b (omega arith) h) (λ e. byte-below crc b word h))
+
+  -- ---- each act
+
+  passed : {a next : Activity} {deed : Deed} → Passes (orderAt x) (seenAt x) a next deed
       → busyIn a ≡ true
+      → (a ≡ Settle 0 → ⊥)
       → Counted (orderAt x) a
       → (seeks a ≡ true → Aims x (regsAt x))
+      → Good x (left x a) (pass (seenAt x) next deed)
+  unfolding leftOf busyIn Counted seeks afterMatch afterRecord begunLeft trackAfter regsAfter effectOf stepped
+  passed Passes.idles busy _ _ _ = never (cc)
+  passed (Passes.seek-waits more) _ _ counted aims =
+      record { falls = rw (size x) (omega arith); counted = counted; low = x .low; aims = λ on. aims refl }
+  passed (Passes.seek-steps other) _ _ counted aims =
+      let aim = aims refl in
+      let near = nearer (x .view .tr) (x .outside .dr) (aim .2) (x .dr) other in
+      record {
+        falls = rw (size x, ← (aim .1), ← near, step-time) (omega arith);
+        counted = counted;
+        low = x .low;
+        aims = λ on. (aim .0, aim .1, by-cond (λ n. n < 256) (ltb (x .view .tr) (x .outside .dr)) (λ e. omega arith) (λ e. omega arith));
+      }
+  passed Passes.pulse-steps _ _ counted _ = passes x _ _ _ (rw (size x, step-time) (omega arith)) counted refl
+  passed (Passes.stop-waits more) _ _ counted _ = passes x _ _ _ (rw (size x) (omega arith)) counted refl
+  passed (Passes.stop-fails st) _ _ counted _ = ends x _ _ (omega (arith, stops-left st counted))
+  passed (Passes.stop-verifies st on) _ _ counted _ =
+      let (verifying, more) = stops-left st counted in
+      passes x _ _ _ (rw (verifying, size x) (rw on at more)) (rw verifying verifies) refl
+  passed (Passes.stop-halts st) _ _ counted _ = ends x _ _ (omega (arith, stops-left st counted))
+  passed (Passes.settles {n = zero}) _ unsettled _ _ = absurd (unsettled refl)
+  passed (Passes.settles {n = suc n}) _ _ counted _ = passes x _ _ _ (rw (size x) (omega arith)) counted refl
+  passed (Passes.search-fails {n}) _ _ _ _ = ends x _ _ (fifth-left n)
+  passed (Passes.search-goes-on {n} few e) _ _ counted _ = passes x _ _ _ (fifth-falls n few) counted refl
+  passed (Passes.bad-match {n} few) _ _ counted _ = passes x _ _ _ (fifth-falls n few) counted refl
+  passed (Passes.good-match {n} id) _ _ counted _ = rw counted (ends x _ _ (fifth-left n))
+  passed Passes.mark-met _ _ counted _ = passes x _ _ _ (omega arith) counted refl
+  passed (Passes.window-goes-on less e) _ _ counted _ = passes x _ _ _ (omega arith) counted refl
+  passed Passes.window-fails _ _ _ _ = ends x _ _ (omega arith)
+  passed (Passes.data-byte e) _ _ counted _ = passes x _ _ _ (omega arith) counted refl
+  passed (Passes.data-crc e) _ _ counted _ = passes x _ _ _ (omega arith) counted refl
+  passed Passes.record-over _ _ counted _ = rw counted (ends x _ _ (omega arith))
+  passed Passes.hunt-fails _ _ counted _ = absurd counted
+  passed (Passes.hunt-goes-on few e) _ _ counted _ = absurd counted
+  passed Passes.id-met _ _ counted _ = absurd counted
+  passed (Passes.address-byte e) _ _ _ _ = passes x _ _ _ (omega arith) tt refl
+  passed Passes.address-over _ _ _ _ = ends x _ _ (omega arith)
+  passed (Passes.await-goes-on off) _ _ counted _ = passes x _ Await Deed.Nothing (await-falls off) counted refl
+  passed (Passes.await-fails on) _ _ _ _ = ends x _ _ (rw on (omega (arith, x .long)))
+  passed Passes.track-byte _ _ _ _ = track-falls (seenAt x .cell) TrackRead _ (x .low) tt refl refl
+  passed Passes.preamble-fails _ _ _ _ = ends x _ _ (omega arith)
+
+  written : {a next : Activity} {deed : Deed} {cell : ℕ} → Writes (orderAt x) (seenAt x) a cell next deed
+      → Counted (orderAt x) a
+      → Good x (left x a) (write cell next deed)
+  unfolding leftOf Counted seeks afterRecord
+  written (Writes.preamble-goes-on {n} less) single = writes x _ _ _ _ (preamble-low (n + 1)) (omega arith) single refl
+  written (Writes.mark-put {n}) single =
+      writes x _ _ _ _ (preamble-low (n + 1)) (omega arith) (single, mark-word (mfmAt x) _ mark-low) refl
+  written (Writes.byte-put {crc} more) counted =
+      writes x _ _ _ _ (omega (arith, taken-byte x)) (omega arith)
+      (counted .0, byte-below crc (takenOf (seenAt x)) (counted .1) (taken-byte x)) refl
+  written (Writes.high-put e) counted = writes x _ _ _ _ (omega (arith, counted .1)) (omega arith) counted refl
+  written (Writes.low-put e) counted = writes x _ _ _ _ (omega arith) (omega arith) counted refl
+  written Writes.record-put counted = rw (counted .0) (writes x _ 0xFF Idle _ (omega arith) (omega arith) tt refl)
+  written Writes.high-laid word = track-falls _ _ _ (omega arith) word refl refl
+  written (Writes.byte-laid {crc}) word =
+      track-falls _ _ _ (laid-low (takenOf (seenAt x)) (taken-byte x)) (laid-word crc (takenOf (seenAt x)) word (taken-byte x)) refl
+      refl
+  written Writes.low-laid word = track-falls _ _ _ (omega arith) (omega arith) refl refl
+
+  -- ---- a byte time
+
+  -- from cell 1 on it takes the longest
+  await-most : left x Await ≤ 2 * ringAt x .length - 1
+  unfolding leftOf
+  await-most =
+      by-cond (λ n. n ≤ 2 * ringAt x .length - 1) (index x) (λ on. omega (arith, x .long))
+      (λ off. omega (arith, eqb-false (ringAt x .position) 0 off, x .inside))
+
+  -- what can act, with so many byte times left
+  abbrev Comes : ℕ → Activity → Type 0
+  Comes most a =
+      (left x a ≤ most) × (busyIn a ≡ true) × (a ≡ Settle 0 → ⊥) × Counted (orderAt x) a × (seeks a ≡ true → Aims x (regsAt x))
+
+  later : {n most : ℕ} {a : Activity} → n ≤ most → Comes n a → Comes most a
+  later l c = (omega (arith, c .0), c .1, c .2, c .3, c .4)
+
+  enough : toEnd (ringAt x) ≤ left x Await
+  unfolding leftOf
+  enough = by-cond (λ n. toEnd (ringAt x) ≤ n) (index x) (λ on. omega arith) (λ off. omega arith)
+
+  awaits : {j : Job} → jobOf (orderAt x .command) ≡ j → (j ≡ Job.Verify → ⊥) → Plain j → Comes (left x Await) Await
+  unfolding busyIn Counted seeks
+  awaits e track plain = (omega arith, refl, (λ f. never (cc)), (rw e plain, rw e track), λ f. never (cc))
+
+  -- a track command, at the first pulse
+  opens : {j : Job} → jobOf (orderAt x .command) ≡ j → (j ≡ Job.Verify → ⊥) → Plain j
+      → Comes (left x Await) (jobBegun (seenAt x) j)
+  unfolding jobBegun leftOf busyIn Counted seeks
+  opens e track verifies = absurd (track refl)
+  opens e track reads-track =
+      by-cond (Comes (left x Await)) (index x) (λ on. (enough, refl, (λ f. never (cc)), tt, λ f. never (cc)))
+      (λ off. awaits e track reads-track)
+  opens e track writes-track =
+      by-cond (Comes (left x Await)) (index x && not (x .outside .drq))
+      (λ on. (enough, refl, (λ f. never (cc)), omega arith, λ f. never (cc)))
+      (λ off. awaits e track writes-track)
+
+  begins : {j : Job} → jobOf (orderAt x .command) ≡ j → Plain j → Comes (begunLeft j (ringAt x .length)) (jobBegun (seenAt x) j)
+  unfolding jobBegun leftOf busyIn Counted seeks begunLeft
+  begins e verifies =
+      (fifth-most (ringAt x) (x .inside) (some x), refl, (λ f. never (cc)), e, λ f. never (cc))
+  begins e reads-track = later await-most (opens e (λ f. never (cc)) reads-track)
+  begins e writes-track = later await-most (opens e (λ f. never (cc)) writes-track)
+
+  entered : {a acting : Activity} → Enters (orderAt x) (seenAt x) a acting → busyIn a ≡ true → Counted (orderAt x) a
+      → (seeks a ≡ true → Aims x (regsAt x))
+      → Comes (left x a) acting
+  unfolding leftOf Counted
+  entered (Enters.goes-on a f) busy counted aims =
+      (omega arith, busy, (λ e. never (cc (f e, x .hlt))), counted, aims)
+  entered (Enters.settled {n}) busy counted aims = later (omega arith) (begins refl counted)
+  entered (Enters.opened on) busy counted aims = opens refl (counted .1) (counted .0)
+
+  good : {a : Activity} {act : Act} → Acts (orderAt x) (seenAt x) a act → {most : ℕ} → Comes most a → Good x most act
+  good (Acts.passes p) c = more-left x (c .0) (passed p (c .1) (c .2) (c .3) (c .4))
+  good (Acts.writes e w) c = more-left x (c .0) (written w (c .3))
+
+  pub acts : (a : Activity) → busyIn a ≡ true → Counted (orderAt x) a → (seeks a ≡ true → Aims x (regsAt x))
       → Good x (left x a) (actOf (orderAt x) (seenAt x) a)
-  unfolding actOf settledOf enteredOf reactedOf awaitedOf busyIn Counted seeks
-  acts Idle busy counted aims = never (cc)
-  acts (Seek n) busy counted aims = seeks-on x n counted (aims refl)
-  acts Pulse busy counted aims = pulses x counted
-  acts (Stop n) busy counted aims = stops-on x n counted
-  acts (Settle n) busy counted aims = settles n counted
-  acts (Search n scan) busy counted aims = searching x n scan counted
-  acts (Window m n run) busy counted aims = opens x m n run counted (soughtOf (mfmAt x) (seenAt x .cell) run)
-  acts (Data n crc deleted) busy counted aims =
-      reads-on x n crc deleted (bitOf (orderAt x .byte) bitM) counted counted
-  acts (Hunt n run) busy counted aims = absurd counted
-  acts (Address n crc track) busy counted aims = addresses x n crc track
-  acts Await busy counted aims = awaits x (orderAt x .job)
-  acts TrackRead busy counted aims = reads-cells x
-  acts (Preamble m n) busy counted aims = prepares x m n (bitOf (orderAt x .byte) bitA) counted
-  acts (Put n crc) busy counted aims = puts x n crc (bitOf (orderAt x .byte) bitM) (counted .0) (counted .0) (counted .1)
-  acts (Format crc) busy counted aims = formats x crc counted
-  acts (FormatCrc crc) busy counted aims = formats-crc x crc counted
+  acts a busy counted aims =
+      good (turns (orderAt x) (seenAt x) a) (entered (enters (orderAt x) (seenAt x) a) busy counted aims)

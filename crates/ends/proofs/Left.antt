@@ -1,5 +1,5 @@
 -- How many byte times a command has left at most, by what it is doing. A search for Read Sector, Write Sector or Read Address
--- is not among it: how long that takes is told by the track. Assumes nothing.
+-- is not among it: how long that takes depends on the track. Assumes nothing.
 use mathlib.Core.Path.{_≡_, refl, ap}
 use mathlib.Core.Bool.{Bool, true, false, cond}
 use Prim.Native.Nat.{ℕ, suc, _+_, _-_, _*_, _≤_, _<_}
@@ -8,19 +8,19 @@ use native.Mathlib.Omega.{arith}
 use lib.Dec.{ltb, leb, eqb}
 use borrow.Author.Tests.{eqb-true, eqb-false, leb-false, lt-ltb, eq-eqb, ne-eqb}
 use Rattle.common.proofs.Cases.{never}
-use Rattle.codes.specs.Bits.{bitOf, bitV, bitM}
-use Rattle.codes.specs.Times.{stepTimeOf, settleTimeOf}
-use Rattle.order.specs.declared.Order.{Order}
-use Rattle.order.specs.declared.Job.{Job}
-use Rattle.order.specs.declared.Job.the-variants as job
+use Rattle.command.specs.Bits.{isMultiple, verifiesTrack}
+use Rattle.command.specs.Commands.{jobOf}
+use Rattle.command.specs.Times.{stepTimeOf, settleTimeOf}
+use Rattle.command.specs.declared.Order.{Order}
+use Rattle.command.specs.declared.Job.{Job}
+use Rattle.command.specs.declared.Job.the-variants as job
 use Rattle.activity.specs.declared.Activity.{Activity}
-use Rattle.activity.specs.declared.Activity.the-variants.{Idle, Seek, Pulse, Stop, Settle, Search, Window, Data, Hunt}
-use Rattle.activity.specs.declared.Activity.the-variants.{Address, Await, TrackRead, Preamble, Put, Format, FormatCrc}
-use Rattle.search.specs.Search.{pulsesOf}
+use Rattle.activity.specs.declared.Activity.the-variants.{Idle, Seek, Pulse, Stop, Settle, Search, Window, Data, Hunt, Address, Await, TrackRead, Preamble, Put, Format, FormatCrc}
+use Rattle.search.specs.Search.{pulsesSeen}
 use Rattle.scan.specs.DataMarks.{windowOf}
 use Rattle.writing.specs.Writing.{markPlace}
-use Rattle.chip.specs.declared.Ring.{Ring}
-use Rattle.chip.specs.Rings.{nextOf}
+use Rattle.registers.specs.declared.Ring.{Ring}
+use Rattle.registers.specs.Rings.{ringNext}
 use Rattle.wd.proofs.Valid.{next-length}
 use Rattle.ends.specs.Ends.{apart}
 
@@ -28,12 +28,12 @@ use Rattle.ends.specs.Ends.{apart}
 
 -- where the head goes in a byte time
 pub data Next (r : Ring) : Type 0 where
-  to-start : suc (r .position) ≡ r .length → nextOf r ≡ record { length = r .length; position = 0 } → Next r
+  to-start : suc (r .position) ≡ r .length → ringNext r ≡ record { length = r .length; position = 0 } → Next r
   onward :
-      suc (r .position) < r .length → nextOf r ≡ record { length = r .length; position = suc (r .position) } → Next r
+      suc (r .position) < r .length → ringNext r ≡ record { length = r .length; position = suc (r .position) } → Next r
 
 pub next-place : (r : Ring) → r .position < r .length → Next r
-unfolding nextOf
+unfolding ringNext
 next-place r inside = by (ℕ-discrete (r .position + 1) (r .length))
   where
     by : Dec (r .position + 1 ≡ r .length) → Next r
@@ -53,11 +53,11 @@ toFifth pulses r = (4 - pulses) * r .length + toPulse r
 
 -- ---- what is left
 
--- behind the last step
+-- after the last step
 abbrev pub verifyLeft : Order → Bool → ℕ → ℕ
-verifyLeft o mfm size = cond (bitOf (o .byte) bitV) (settleTimeOf mfm + 5 * size) 0
+verifyLeft o mfm size = cond (verifiesTrack (o .byte)) (settleTimeOf mfm + 5 * size) 0
 
--- behind the settling
+-- after the settling
 unfoldable pub begunLeft : Job → ℕ → ℕ
 begunLeft job.Nothing size = 0
 begunLeft job.Verify size = 5 * size
@@ -85,7 +85,7 @@ module _ (o : Order) (mfm : Bool) (target : ℕ) (r : Ring) (tr : ℕ) where
   leftOf (Seek left) = down left + apart tr target * stepTimeOf mfm (o .byte) + verifyLeft o mfm (r .length)
   leftOf Pulse = suc (stepTimeOf mfm (o .byte)) + verifyLeft o mfm (r .length)
   leftOf (Stop left) = down left + verifyLeft o mfm (r .length)
-  leftOf (Settle left) = left + begunLeft (o .job) (r .length)
+  leftOf (Settle left) = left + begunLeft (jobOf (o .command)) (r .length)
   leftOf (Search pulses scan) = toFifth pulses r
   leftOf (Window left passed run) = upTo (windowOf mfm) passed + down left
   leftOf (Data left crc deleted) = down left
@@ -100,7 +100,7 @@ module _ (o : Order) (mfm : Bool) (target : ℕ) (r : Ring) (tr : ℕ) where
 
 -- ---- which commands and activities it counts
 
--- a job that begins something of a known length behind the settling
+-- a job that begins something of a known length after the settling
 pub data Plain : Job → Type 0 where
   verifies : Plain job.Verify
   reads-track : Plain job.ReadTrack
@@ -109,19 +109,19 @@ pub data Plain : Job → Type 0 where
 -- a CRC register holds a word, and a record is the only one
 unfoldable pub Counted : Order → Activity → Type 0
 Counted o Idle = Unit {0}
-Counted o (Seek left) = o .job ≡ job.Verify
-Counted o Pulse = o .job ≡ job.Verify
-Counted o (Stop left) = o .job ≡ job.Verify
-Counted o (Settle left) = Plain (o .job)
-Counted o (Search pulses scan) = o .job ≡ job.Verify
-Counted o (Window left passed run) = bitOf (o .byte) bitM ≡ false
-Counted o (Data left crc deleted) = bitOf (o .byte) bitM ≡ false
+Counted o (Seek left) = jobOf (o .command) ≡ job.Verify
+Counted o Pulse = jobOf (o .command) ≡ job.Verify
+Counted o (Stop left) = jobOf (o .command) ≡ job.Verify
+Counted o (Settle left) = Plain (jobOf (o .command))
+Counted o (Search pulses scan) = jobOf (o .command) ≡ job.Verify
+Counted o (Window left passed run) = isMultiple (o .byte) ≡ false
+Counted o (Data left crc deleted) = isMultiple (o .byte) ≡ false
 Counted o (Hunt pulses run) = ⊥
 Counted o (Address passed crc track) = Unit {0}
-Counted o Await = Unit {0}
+Counted o Await = Plain (jobOf (o .command)) × (jobOf (o .command) ≡ job.Verify → ⊥)
 Counted o TrackRead = Unit {0}
-Counted o (Preamble left passed) = bitOf (o .byte) bitM ≡ false
-Counted o (Put left crc) = (bitOf (o .byte) bitM ≡ false) × (crc < 65536)
+Counted o (Preamble left passed) = isMultiple (o .byte) ≡ false
+Counted o (Put left crc) = (isMultiple (o .byte) ≡ false) × (crc < 65536)
 Counted o (Format crc) = crc < 65536
 Counted o (FormatCrc crc) = crc < 65536
 
@@ -148,25 +148,25 @@ seeks (FormatCrc crc) = false
 
 module _ (r : Ring) (inside : r .position < r .length) (long : 2 ≤ r .length) where
   -- a byte time that is no pulse, and one that is
-  pub pulse-nearer : eqb (r .position) 0 ≡ false → suc (toPulse (nextOf r)) ≡ toPulse r
+  pub pulse-nearer : eqb (r .position) 0 ≡ false → suc (toPulse (ringNext r)) ≡ toPulse r
   unfolding toPulse
   pulse-nearer off = by (next-place r inside)
     where
       some : r .position ≡ 0 → ⊥
       some = eqb-false _ _ off
 
-      by : Next r → suc (toPulse (nextOf r)) ≡ toPulse r
+      by : Next r → suc (toPulse (ringNext r)) ≡ toPulse r
       by (to-start e there) = simp (off, there) (omega arith)
       by (onward e there) = simp (off, there, ne-eqb (suc (r .position)) 0 (omega arith)) (omega arith)
 
-  pub pulse-again : eqb (r .position) 0 ≡ true → (toPulse r ≡ 1) × (toPulse (nextOf r) ≡ r .length)
+  pub pulse-again : eqb (r .position) 0 ≡ true → (toPulse r ≡ 1) × (toPulse (ringNext r) ≡ r .length)
   unfolding toPulse
   pulse-again on = by (next-place r inside)
     where
       first : r .position ≡ 0
       first = eqb-true _ _ on
 
-      by : Next r → (toPulse r ≡ 1) × (toPulse (nextOf r) ≡ r .length)
+      by : Next r → (toPulse r ≡ 1) × (toPulse (ringNext r) ≡ r .length)
       by (to-start e there) = absurd (omega (arith, first))
       by (onward e there) =
           (simp on, simp (there, ne-eqb (suc (r .position)) 0 (omega arith)) (omega (arith, first)))
@@ -194,24 +194,24 @@ module _ (r : Ring) (inside : r .position < r .length) (long : 2 ≤ r .length) 
   -- "Pulses count from its first byte time": as long as it is not the fifth, fewer byte times are left to it
   pub fifth-nearer :
       (pulses : ℕ)
-      → leb 5 (pulsesOf pulses (eqb (r .position) 0)) ≡ false
-      → toFifth (pulsesOf pulses (eqb (r .position) 0)) (nextOf r) < toFifth pulses r
-  unfolding toFifth pulsesOf
+      → leb 5 (pulsesSeen pulses (eqb (r .position) 0)) ≡ false
+      → toFifth (pulsesSeen pulses (eqb (r .position) 0)) (ringNext r) < toFifth pulses r
+  unfolding toFifth pulsesSeen
   fifth-nearer pulses = by (eqb (r .position) 0) refl
     where
-      size : nextOf r .length ≡ r .length
+      size : ringNext r .length ≡ r .length
       size = next-length r
 
       unmarked :
           eqb (r .position) 0 ≡ false
-          → (4 - pulses) * nextOf r .length + toPulse (nextOf r) < (4 - pulses) * r .length + toPulse r
+          → (4 - pulses) * ringNext r .length + toPulse (ringNext r) < (4 - pulses) * r .length + toPulse r
       unmarked off = omega (arith, ap (λ (n : ℕ). (4 - pulses) * n) size, pulse-nearer off)
 
       by :
           (index : Bool)
           → eqb (r .position) 0 ≡ index
           → leb 5 (cond index (cond (ltb pulses 5) (pulses + 1) 5) pulses) ≡ false
-          → (4 - cond index (cond (ltb pulses 5) (pulses + 1) 5) pulses) * nextOf r .length + toPulse (nextOf r)
+          → (4 - cond index (cond (ltb pulses 5) (pulses + 1) 5) pulses) * ringNext r .length + toPulse (ringNext r)
           < (4 - pulses) * r .length + toPulse r
       by true e = counted (ltb pulses 5) refl
         where
@@ -219,7 +219,7 @@ module _ (r : Ring) (inside : r .position < r .length) (long : 2 ≤ r .length) 
               (b : Bool)
               → ltb pulses 5 ≡ b
               → leb 5 (cond b (pulses + 1) 5) ≡ false
-              → (4 - cond b (pulses + 1) 5) * nextOf r .length + toPulse (nextOf r) < (4 - pulses) * r .length + toPulse r
+              → (4 - cond b (pulses + 1) 5) * ringNext r .length + toPulse (ringNext r) < (4 - pulses) * r .length + toPulse r
           counted true f five =
               let less : pulses + 1 < 5 = leb-false 5 (pulses + 1) five in
               let (here, there) = pulse-again e in

@@ -1,10 +1,6 @@
--- Every command ends, the lemmas that it stands on, and commands that take all of their bound.
+-- Every command ends, and the lemmas that it stands on.
 pub mod Left
 pub mod Moments
-pub mod StepsFall
-pub mod ReadsFall
-pub mod TracksFall
-pub mod WritesFall
 pub mod Falls
 pub mod SteadyDr
 pub mod Drains
@@ -14,10 +10,4 @@ pub mod Begun
 pub mod TypeOne
 pub mod Settled
 pub mod Sectors
-pub mod Addresses
 pub mod Ends
-pub mod SeekScenes
-pub mod SeekActs
-pub mod KeptSeeking
-pub mod SeekTime
-pub mod TrackTime

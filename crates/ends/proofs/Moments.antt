@@ -5,19 +5,18 @@ use Prim.Native.Nat.{ℕ, _≤_, _<_}
 use native.Mathlib.Omega.{arith}
 use lib.Dec.{eqb}
 use Rattle.common.proofs.Cases.{by-cond, never}
-use Rattle.order.specs.declared.Job.{Job}
-use Rattle.order.specs.declared.Order.{Order}
+use Rattle.scan.specs.Rows.{shortestRow}
+use Rattle.command.specs.declared.Order.{Order}
 use Rattle.activity.specs.Acts.{pass, write, takenOf}
 use Rattle.activity.specs.declared.Seen.{Seen}
 use Rattle.activity.specs.declared.Act.{Act}
 use Rattle.activity.specs.declared.Activity.{Activity}
 use Rattle.activity.specs.declared.Activity.the-variants.{Idle}
 use Rattle.activity.specs.declared.Deed.{Deed}
-use Rattle.act.specs.Turns.{enteredOf, reactedOf}
-use Rattle.chip.specs.declared.Ring.{Ring}
-use Rattle.chip.specs.declared.Regs.{Regs}
-use Rattle.deeds.specs.Deeds.{regsAfter}
-use Rattle.chip.specs.Rings.{nextOf}
+use Rattle.registers.specs.declared.Ring.{Ring}
+use Rattle.registers.specs.declared.Regs.{Regs}
+use Rattle.effects.proofs.Apart.{regsAfter}
+use Rattle.registers.specs.Rings.{ringNext}
 use Rattle.wd.proofs.Valid.{next-length}
 use Rattle.hosts.proofs.Views.{View, Outside, cellUnder, seenIn}
 use Rattle.ends.proofs.Left.{leftOf, Counted, seeks}
@@ -31,7 +30,7 @@ pub record Moment : Type 0 where
   pub view : View
   pub outside : Outside
   pub inside : view .ring .position < view .ring .length
-  pub long : 2048 ≤ view .ring .length
+  pub long : shortestRow ≤ view .ring .length
   pub low : cellUnder view ≤ 511
   pub hlt : outside .hlt ≡ true
   pub dr : outside .dr < 256
@@ -51,12 +50,12 @@ seenAt x = seenIn (x .view) (x .outside)
 abbrev pub regsAt : Moment → Regs
 regsAt x = record { tr = x .view .tr; sr = x .view .sr; dr = x .outside .dr }
 
--- the byte times left in this one, and in the next behind a deed
+-- the byte times left in this one, and in the next after a deed
 abbrev pub left : Moment → Activity → ℕ
 left x = leftOf (orderAt x) (mfmAt x) (x .target) (ringAt x) (x .view .tr)
 
 abbrev pub behind : Moment → Deed → Activity → ℕ
-behind x deed = leftOf (orderAt x) (mfmAt x) (x .target) (nextOf (ringAt x)) (regsAfter (regsAt x) deed .tr)
+behind x deed = leftOf (orderAt x) (mfmAt x) (x .target) (ringNext (ringAt x)) (regsAfter (regsAt x) deed .tr)
 
 -- a command that is seeking goes on: DR is the target, and TR a byte
 abbrev pub Aims : Moment → Regs → Type 0
@@ -107,7 +106,7 @@ module _ (x : Moment) where
       record { falls = omega (arith, good .falls); counted = good .counted; low = good .low; aims = good .aims }
 
   -- the ring keeps its length, which is not one of a cell or two
-  pub size : nextOf (ringAt x) .length ≡ ringAt x .length
+  pub size : ringNext (ringAt x) .length ≡ ringAt x .length
   size = next-length (ringAt x)
 
   pub some : 2 ≤ ringAt x .length
@@ -116,13 +115,6 @@ module _ (x : Moment) where
   -- an index pulse
   abbrev pub index : Bool
   index = eqb (ringAt x .position) 0
-
-  -- what it does in an activity, and the activity that it comes to with a job
-  abbrev pub reacts : Activity → Act
-  reacts = reactedOf (orderAt x) (seenAt x)
-
-  abbrev pub enters : Job → Activity → Activity
-  enters j = enteredOf j index (x .outside .drq)
 
   -- DR, or 00
   pub taken-byte : takenOf (seenAt x) < 256

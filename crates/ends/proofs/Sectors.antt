@@ -1,39 +1,46 @@
--- Read Sector and Write Sector end: within five rounds, whether they find an ID or not. Assumes nothing.
+-- Read Sector, Write Sector and Read Address end: within five rounds, whether they find an ID or not. Assumes nothing.
 use mathlib.Core.Path.{_≡_, refl, sym, ap, _∙_}
 use mathlib.Core.Bool.{Bool, true, false, true≢false}
 use Prim.Native.Nat.{ℕ, suc, _+_, _≤_, _<_}
 use native.Mathlib.Omega.{arith}
+use Rattle.common.proofs.Cases.{by-cond}
 use Rattle.scan.specs.Marks.{leadOf}
-use Rattle.scan.specs.Streams.{idWidth}
+use Rattle.scan.specs.Streams.{idWidth, runAfter}
 use Rattle.scan.specs.DataMarks.{windowOf}
-use Rattle.codes.specs.Bits.{bitOf, bitM}
-use Rattle.codes.specs.Sizes.{sizeOf}
-use Rattle.order.specs.Orders.{jobOf, orderOf}
-use Rattle.order.specs.declared.Command.{Command}
-use Rattle.order.specs.declared.Job.{Job}
-use Rattle.order.specs.declared.Job.the-variants as job
-use Rattle.activity.specs.Limits.{busyIn}
-use Rattle.search.specs.Search.{servedOf}
+use Rattle.command.specs.Bits.{isMultiple}
+use Rattle.command.specs.Commands.{jobOf}
+use Rattle.command.specs.Orders.{orderOf}
+use Rattle.command.specs.Sizes.{sizeOf}
+use Rattle.command.specs.declared.Command.{Command}
+use Rattle.command.specs.declared.Job.{Job}
+use Rattle.command.specs.declared.Job.the-variants as job
+use Rattle.activity.specs.declared.Activity.{Activity}
+use Rattle.activity.specs.declared.Activity.the-variants as activity
+use Rattle.search.specs.Search.{afterMatch}
 use Rattle.writing.specs.Writing.{lastKept, lastZero, markPlace}
-use Rattle.chip.specs.declared.Ring.{Ring}
-use Rattle.hosts.specs.Hosts.{Host, Desk, at}
+use Rattle.registers.specs.declared.Ring.{Ring}
+use Rattle.act.specs.Turns.{jobBegun, begunActivity}
+use Rattle.hosts.specs.Hosts.{Host, Desk}
 use Rattle.hosts.specs.Scenes.{Scene, loaded, settling}
-use Rattle.hosts.proofs.DataFields.{size-most}
-use Rattle.hosts.proofs.Views.{View, viewOf}
-use Rattle.hosts.proofs.Phases.{stands}
-use Rattle.hosts.proofs.Searching.{TypeTwo, reads, writes as writes-sector, Going, pulsesFrom, hitAt, searchAt, search-busy}
-use Rattle.hosts.proofs.Searching.{fits-on, Begins, searching, searched-hit, searched-lost}
-use Rattle.hosts.proofs.Found.{id-narrow}
-use Rattle.hosts.proofs.RingIds.{taken, takes}
+use Rattle.command.proofs.Tables.{size-most}
+use Rattle.hosts.proofs.Views.{View}
+use Rattle.hosts.proofs.Phases.{Stands}
+use Rattle.hosts.proofs.Passing.{streamFrom, OnTrack, on-track}
+use Rattle.hosts.proofs.Seeking.{SearchFrom, settled}
+use Rattle.hosts.proofs.Searching.{TypeTwo, reads, writes}
+use Rattle.hosts.proofs.RingIds.{hit-ring, ring-hit}
+use Rattle.hosts.proofs.Working.{courseOf, long, beginning, beginning-track, beginning-inside, begins}
+use Rattle.hosts.proofs.Found.{id-narrow, idSearch}
 use Rattle.ends.specs.Ends.{fiveRounds}
 use Rattle.ends.proofs.Left.{leftOf, Counted, seeks}
 use Rattle.ends.proofs.Drains.{Over, later, drains-from}
-use Rattle.ends.proofs.FiveRounds.{Search, five-rounds}
+use Rattle.ends.proofs.Hunting.{markSeeker, mark-seeks, marks-soon}
+use Rattle.ends.proofs.FiveRounds.{Short, five-rounds}
 use Rattle.ends.proofs.Begun.{led}
-use Rattle.ends.proofs.Settled.{Working, ground, settledView, settled-over, settled-fits, settled-here, search-dones}
-use Rattle.ends.proofs.Settled.{long}
+use Rattle.ends.proofs.Settled.{Stays, lowWorking, lowHeads, settled-over}
+use Rattle.activity.specs.declared.Seen.{Seen}
 
--- what a Read Sector and a Write Sector take behind the ID
+-- what a Read Sector and a Write Sector take after the ID
 field-most : (mfm : Bool) (size : ℕ) → size ≤ 1024 → (windowOf mfm + size + 2 ≤ 1069) × (markPlace mfm + size + 3 ≤ 1069)
 unfolding windowOf markPlace lastZero lastKept leadOf
 field-most true size l = (omega arith, omega arith)
@@ -44,90 +51,123 @@ unfolding windowOf markPlace lastZero lastKept leadOf
 field-some true = (omega arith, omega arith)
 field-some false = (omega arith, omega arith)
 
-module _ {s : Scene} {command : Command} (w : Working s command)
-    (two : TypeTwo (jobOf command)) (single : bitOf (s .byte) bitM ≡ false) where
+module _ {s : Scene} {command : Command} (x : Stays s command) where
   abbrev h : Host
   h = s .host
 
   abbrev d : Desk
   d = loaded s
 
+  -- the view as the search begins
   abbrev view : View
-  view = settledView w
+  view = beginning (lowWorking x) (lowHeads x)
 
-  begins-search : Begins h d (settling s) view
-  unfolding orderOf
-  begins-search =
-      record {
-        alone = w .asked .alone;
-        fits = settled-fits w;
-        two = two;
-        hlt = w .asked .hlt (settling s);
-        stand = settled-here w;
-      }
+  track : OnTrack view
+  track = beginning-track (lowWorking x) (lowHeads x)
 
-  served-counted : (size : ℕ) (j : Job) → TypeTwo j → Counted (ground w .order) (servedOf size j)
-  unfolding orderOf servedOf Counted
-  served-counted size job.ReadSector reads = single
-  served-counted size job.WriteSector writes-sector = single
+  -- what the search has found ends within so many byte times
+  rest-over :
+      (rest n : ℕ) (a : Activity)
+      → Stands (courseOf (lowWorking x)) (settling s) view (suc n) false a
+      → Counted (view .order) a
+      → seeks a ≡ false
+      → ((r : Ring) → leftOf (view .order) (view .mfm) 0 r (view .tr) a ≤ rest)
+      → Over h d (settling s + suc n) (settling s + suc n + rest)
+  rest-over rest n a here counted still enough =
+      drains-from h d (led (x .asked)) 0 rest (settling s + suc n) _ (here .view)
+      (on-track view track (suc n) false a .whole)
+      (x .asked .low) counted
+      (λ on. absurd (true≢false (sym on ∙ still)))
+      (enough _)
 
-  served-still : (size : ℕ) (j : Job) → TypeTwo j → seeks (servedOf size j) ≡ false
-  unfolding servedOf seeks
-  served-still size job.ReadSector reads = refl
-  served-still size job.WriteSector writes-sector = refl
+  -- ---- Read Sector and Write Sector
 
-  served-left : (n : ℕ) (r : Ring) (tr : ℕ) (j : Job) → TypeTwo j
-      → leftOf (ground w .order) (ground w .mfm) 0 r tr (servedOf n j) ≤ 1069
-  unfolding servedOf leftOf
-  served-left n r tr job.ReadSector reads =
-      omega (arith, field-most (ground w .mfm) (sizeOf n) (size-most n) .0, field-some (ground w .mfm) .0)
-  served-left n r tr job.WriteSector writes-sector =
-      omega (arith, field-most (ground w .mfm) (sizeOf n) (size-most n) .1, field-some (ground w .mfm) .1)
+  module _ (two : TypeTwo (jobOf command)) (single : isMultiple (s .byte) ≡ false) where
+    served-counted : (size : ℕ) (j : Job) → TypeTwo j → Counted (view .order) (afterMatch size j)
+    unfolding orderOf afterMatch Counted
+    served-counted size job.ReadSector reads = single
+    served-counted size job.WriteSector writes = single
 
-  -- the ID, and what is read or written behind it
-  id-found :
-      (n : ℕ)
-      → Going h d (settling s) view begins-search n
-      → pulsesFrom view (suc n) < 5
-      → hitAt view n ≡ true
-      → Over h d (settling s + suc n) (settling s + suc n + 1069)
-  unfolding orderOf
-  id-found n going few hit =
-      let id = taken view (omega (arith, long w)) n hit in
-      let after : View = stands view (suc n) false (servedOf (id .id .length) (jobOf command)) in
-      let here : viewOf (at h d (settling s + suc n)) ≡ after =
-      searched-hit h d (settling s) view begins-search n going (search-dones w (suc n)) (id .id) few (id .heard)
-      (id .on-ring .suits) in
-      drains-from h d (led (w .asked)) 0 1069 (settling s + suc n) after here
-      (fits-on view (settled-fits w) (suc n) false (after .activity) .whole)
-      (w .asked .low)
-      (served-counted (id .id .length) (jobOf command) two)
-      (λ on. absurd (true≢false (sym on ∙ served-still (id .id .length) (jobOf command) two)))
-      (served-left (id .id .length) (after .ring) (after .tr) (jobOf command) two)
+    served-still : (size : ℕ) (j : Job) → TypeTwo j → seeks (afterMatch size j) ≡ false
+    unfolding afterMatch seeks
+    served-still size job.ReadSector reads = refl
+    served-still size job.WriteSector writes = refl
 
-  id-search : Search h d (settling s) view
-  unfolding busyIn
-  id-search =
-      record {
-        course = searchAt view;
-        test = hitAt view;
-        fits = settled-fits w;
-        long = long w;
-        busy = search-busy view;
-        goes = λ n going. searching h d (settling s) view begins-search n going (search-dones w n);
-        lost = λ n going few five.
-            ap (λ (v : View). busyIn (v .activity))
-            (searched-lost h d (settling s) view begins-search n going (search-dones w (suc n)) few five);
-        rest = 1069;
-        found = id-found;
-        width = idWidth (s .machine .mfm);
-        soon = λ k hit.
-            let id = taken view (omega (arith, long w)) k hit in
-            let (j, near, there) =
-            takes view (omega (arith, settled-fits w .whole, settled-fits w .inside)) _ (id .id) (id .on-ring) in
-            (j, omega arith, there);
-        short = omega (arith, id-narrow (s .machine .mfm));
-      }
+    served-left : (n : ℕ) (r : Ring) (j : Job) → TypeTwo j
+        → leftOf (view .order) (view .mfm) 0 r (view .tr) (afterMatch n j) ≤ 1069
+    unfolding afterMatch leftOf
+    served-left n r job.ReadSector reads =
+        omega (arith, field-most (view .mfm) (sizeOf n) (size-most n) .0, field-some (view .mfm) .0)
+    served-left n r job.WriteSector writes =
+        omega (arith, field-most (view .mfm) (sizeOf n) (size-most n) .1, field-some (view .mfm) .1)
 
-  pub sector-over : Over h d 0 (settling s + fiveRounds s)
-  sector-over = settled-over w _ (later h d (omega arith) (five-rounds h d (settling s) view id-search))
+    short-search : Short (idSearch (lowWorking x) two (lowHeads x))
+    unfolding orderOf
+    short-search =
+        record {
+          fresh = refl;
+          long = long (lowWorking x);
+          rest = 1069;
+          found = λ n here hit.
+              rest-over 1069 n _ here (served-counted _ (jobOf command) two) (served-still _ (jobOf command) two)
+              (λ r. served-left _ r (jobOf command) two);
+          width = idWidth (s .machine .mfm);
+          soon = λ k hit.
+              let on = hit-ring s command (settling s) (omega (arith, long (lowWorking x))) k hit in
+              let (j, near, there) = ring-hit s command (settling s) (beginning-inside (lowWorking x) (lowHeads x)) _ (on .on-ring) in
+              (j, omega arith, there);
+          short = omega (arith, id-narrow (s .machine .mfm));
+        }
+
+    pub sector-over : Over h d 0 (settling s + fiveRounds s)
+    sector-over =
+        settled-over x _ (later h d (omega arith) (five-rounds (idSearch (lowWorking x) two (lowHeads x)) short-search))
+
+  -- ---- Read Address
+
+  module _ (address : jobOf command ≡ job.ReadAddress) where
+    hunt-begins :
+        (seen : Seen) → jobBegun seen (jobOf (view .order .command)) ≡ activity.Hunt 0 (runAfter (view .mfm) (streamFrom view) 0)
+    unfolding orderOf runAfter jobBegun
+    hunt-begins seen = ap (jobBegun seen) address
+
+    hunt-goes-on :
+        (seen : Seen)
+        → begunActivity (view .order) seen (activity.Hunt 0 (runAfter (view .mfm) (streamFrom view) 0))
+        ≡ activity.Hunt 0 (runAfter (view .mfm) (streamFrom view) 0)
+    unfolding begunActivity
+    hunt-goes-on seen = refl
+
+    abbrev mark-search : SearchFrom (courseOf (lowWorking x)) (settling s) view
+    mark-search =
+        record {
+          track = track;
+          rows = x .asked .low;
+          seeker = markSeeker view;
+          seeks = mark-seeks view track;
+          counted = 0;
+          few = omega arith;
+          first = activity.Settle 0;
+          entry = settled (x .asked .hlt (settling s)) hunt-begins hunt-goes-on;
+          begins = begins (lowWorking x) (lowHeads x);
+        }
+
+    mark-narrow : leadOf (s .machine .mfm) ≤ 3
+    unfolding leadOf
+    mark-narrow = by-cond (λ (n : ℕ). n ≤ 3) (s .machine .mfm) (λ e. omega arith) (λ e. omega arith)
+
+    short-hunt : Short mark-search
+    unfolding Counted seeks leftOf
+    short-hunt =
+        record {
+          fresh = refl;
+          long = long (lowWorking x);
+          rest = 6;
+          found = λ n here hit. rest-over 6 n _ here tt refl (λ r. omega arith);
+          width = leadOf (s .machine .mfm);
+          soon = marks-soon view track;
+          short = omega (arith, mark-narrow);
+        }
+
+    pub address-over : Over h d 0 (settling s + fiveRounds s)
+    address-over = settled-over x _ (later h d (omega arith) (five-rounds mark-search short-hunt))

@@ -5,30 +5,31 @@ use Prim.Native.Nat.{ℕ, _+_, _*_, _≤_, _<_}
 use native.Mathlib.Nat.{zero-add, mul-le-mul-right}
 use native.Mathlib.Omega.{arith}
 use Rattle.common.proofs.Cases.{never}
-use Rattle.codes.specs.Bits.{bitOf, bitV}
-use Rattle.codes.specs.Times.{settleTimeOf}
-use Rattle.order.specs.Orders.{kindOf, jobOf, orderOf}
-use Rattle.order.specs.declared.Command.{Command}
-use Rattle.order.specs.declared.Command.the-variants.{Restore, Seek}
-use Rattle.order.specs.declared.Job.the-variants as job
-use Rattle.order.specs.declared.Kind.{Kind}
-use Rattle.order.specs.declared.Kind.the-variants.{Seeks, Steps}
+use Rattle.command.specs.Bits.{verifiesTrack}
+use Rattle.command.specs.Commands.{classOf, jobOf}
+use Rattle.command.specs.Orders.{orderOf}
+use Rattle.command.specs.Times.{settleTimeOf}
+use Rattle.command.specs.declared.Command.{Command}
+use Rattle.command.specs.declared.Command.the-variants.{Restore, Seek}
+use Rattle.command.specs.declared.Job.the-variants as job
+use Rattle.command.specs.declared.Class.{Class}
+use Rattle.command.specs.declared.Class.the-variants.{Seeks, Steps}
 use Rattle.activity.specs.declared.Activity.{Activity}
-use Rattle.chip.specs.declared.Regs.{Regs}
+use Rattle.registers.specs.declared.Regs.{Regs}
 use Rattle.accepting.specs.Accepting.{endsAtOnce, beginRegs, beginActivity}
 use Rattle.wd.specs.declared.Machine.{Machine}
-use Rattle.wd.specs.Loads.{begunOf}
+use Rattle.wd.specs.Loads.{commandBegun}
 use Rattle.hosts.specs.Hosts.{Host, Desk, servedAt, at, Alone}
 use Rattle.hosts.specs.Scenes.{Scene, loaded}
 use Rattle.hosts.proofs.Views.{View, viewOf}
-use Rattle.hosts.proofs.Accepted.{above}
-use Rattle.ends.specs.Ends.{leavesDr, Asked, apart, stepping, fiveRounds, verifying}
+use Rattle.hosts.proofs.Accepted.{no-other-restores}
+use Rattle.ends.specs.Ends.{leavesDr, EndPremises, apart, stepping, fiveRounds, verifying}
 use Rattle.ends.proofs.Left.{leftOf, verifyLeft, Counted, seeks}
 use Rattle.ends.proofs.SteadyDr.{calls-steady}
 use Rattle.ends.proofs.Drains.{Over, Steady, drains-from}
 use Rattle.ends.proofs.Begun.{begunBy, started, begun-low, led}
 
-module _ {s : Scene} {command : Command} (asked : Asked s command) where
+module _ {s : Scene} {command : Command} (asked : EndPremises s command) where
   abbrev h : Host
   h = s .host
 
@@ -47,8 +48,8 @@ module _ {s : Scene} {command : Command} (asked : Asked s command) where
 
   -- V, by the ring and by the row
   verify-most : verifyLeft (begun .order) (begun .mfm) (begun .ring .length) ≤ verifying s
-  unfolding begunOf orderOf
-  verify-most = by (bitOf (s .byte) bitV)
+  unfolding commandBegun orderOf
+  verify-most = by (verifiesTrack (s .byte))
     where
       by : (b : Bool)
           → cond b (settleTimeOf (s .machine .mfm) + 5 * s .machine .ring .length) 0
@@ -56,45 +57,45 @@ module _ {s : Scene} {command : Command} (asked : Asked s command) where
       by true = omega (arith, asked .whole)
       by false = omega arith
 
-  abbrev begins : Kind → Activity
-  begins kind = beginActivity (endsAtOnce command (s .lines)) (s .machine .mfm) (s .byte) kind
+  abbrev begins : Class → Activity
+  begins class = beginActivity (endsAtOnce command (s .lines)) (s .machine .mfm) (s .byte) class
 
   dr-here : at h d 0 .machine .regs .dr ≡ begun .regs .dr
   unfolding at
   dr-here = ap (λ (m : Machine). m .regs .dr) (started asked)
 
   typed-over :
-      (n : ℕ) (kind : Kind)
-      → kindOf command ≡ kind
-      → Counted (begun .order) (begins kind)
-      → (seeks (begins kind) ≡ true → Steady h d)
-      → leftOf (begun .order) (begun .mfm) (begun .regs .dr) (begun .ring) (begun .regs .tr) (begins kind) ≤ n
+      (n : ℕ) (class : Class)
+      → classOf command ≡ class
+      → Counted (begun .order) (begins class)
+      → (seeks (begins class) ≡ true → Steady h d)
+      → leftOf (begun .order) (begun .mfm) (begun .regs .dr) (begun .ring) (begun .regs .tr) (begins class) ≤ n
       → Over h d 0 n
-  unfolding begunOf
-  typed-over n kind e counted steady enough =
+  unfolding commandBegun
+  typed-over n class e counted steady enough =
       subst (Over h d 0) (zero-add n)
       (drains-from h d (led asked) (begun .regs .dr) n 0 begunView begun-here (asked .whole) (asked .low)
-      (subst (λ (k : Kind). Counted (begun .order) (begins k)) (sym e) counted)
+      (subst (λ (k : Class). Counted (begun .order) (begins k)) (sym e) counted)
       (λ on. (
-        steady (ap (λ (k : Kind). seeks (begins k)) (sym e) ∙ on),
+        steady (ap (λ (k : Class). seeks (begins k)) (sym e) ∙ on),
         dr-here,
         begun-low asked .0,
       ))
       (subst
-      (λ (k : Kind). leftOf (begun .order) (begun .mfm) (begun .regs .dr) (begun .ring) (begun .regs .tr) (begins k) ≤ n)
+      (λ (k : Class). leftOf (begun .order) (begun .mfm) (begun .regs .dr) (begun .ring) (begun .regs .tr) (begins k) ≤ n)
       (sym e) enough))
 
   pub seeks-over :
-      kindOf command ≡ Seeks
+      classOf command ≡ Seeks
       → jobOf command ≡ job.Verify
       → Steady h d
       → Over h d 0 (1 + apart (begun .regs .tr) (begun .regs .dr) * stepping s + verifying s)
-  unfolding begunOf orderOf beginActivity leftOf Counted
-  seeks-over kind verifies steady = typed-over _ Seeks kind verifies (λ on. steady) (omega (arith, verify-most))
+  unfolding commandBegun orderOf beginActivity leftOf Counted
+  seeks-over class verifies steady = typed-over _ Seeks class verifies (λ on. steady) (omega (arith, verify-most))
 
-  pub steps-over : kindOf command ≡ Steps → jobOf command ≡ job.Verify → Over h d 0 (1 + stepping s + verifying s)
-  unfolding begunOf orderOf beginActivity leftOf Counted seeks
-  steps-over kind verifies = typed-over _ Steps kind verifies (λ on. never (cc)) (omega (arith, verify-most))
+  pub steps-over : classOf command ≡ Steps → jobOf command ≡ job.Verify → Over h d 0 (1 + stepping s + verifying s)
+  unfolding commandBegun orderOf beginActivity leftOf Counted seeks
+  steps-over class verifies = typed-over _ Steps class verifies (λ on. never (cc)) (omega (arith, verify-most))
 
 -- a host that loads no DR
 pub steady-by : (s : Scene) → Alone (s .host) (loaded s) → ((n : ℕ) → leavesDr (s .host .calls n) ≡ true)
@@ -110,17 +111,17 @@ unfolding apart
 apart-byte a b low high = omega arith
 
 -- "Restore sets TR 255, DR 0": 255 steps at most
-pub restore-most : (s : Scene) (asked : Asked s Restore)
+pub restore-most : (s : Scene) (asked : EndPremises s Restore)
     → apart (begunBy s Restore .regs .tr) (begunBy s Restore .regs .dr) * stepping s ≤ 255 * stepping s
 restore-most s asked =
     let low = begun-low asked in
     mul-le-mul-right (stepping s) (apart-byte _ _ (low .0) (low .1))
 
-pub seek-regs : (s : Scene) (asked : Asked s Seek) → begunBy s Seek .regs ≡ s .machine .regs
-unfolding begunOf beginRegs
-seek-regs s asked = rw (above (s .byte) Seek (asked .decodes) (λ e. never (cc)))
+seek-regs : (s : Scene) (asked : EndPremises s Seek) → begunBy s Seek .regs ≡ s .machine .regs
+unfolding commandBegun beginRegs
+seek-regs s asked = rw (no-other-restores Seek (λ e. never (cc)))
 
-pub seek-most : (s : Scene) (asked : Asked s Seek)
+pub seek-most : (s : Scene) (asked : EndPremises s Seek)
     → apart (begunBy s Seek .regs .tr) (begunBy s Seek .regs .dr) * stepping s
     ≡ apart (s .machine .regs .tr) (s .machine .regs .dr) * stepping s
 seek-most s asked = ap (λ (r : Regs). apart (r .tr) (r .dr) * stepping s) (seek-regs s asked)

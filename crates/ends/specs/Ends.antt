@@ -1,5 +1,5 @@
--- Every command ends: with HLT on, each accepted command without m ends by itself, within so many byte times. What it asks,
--- and what it promises. Assumes nothing.
+-- Every command ends: with HLT on, each accepted command without m ends by itself, within so many byte times. Its
+-- premises and its conclusion. Assumes nothing.
 use mathlib.Core.Path.{_≡_}
 use mathlib.Core.Bool.{Bool, true, false, cond, not, _&&_}
 use mathlib.Core.List.{List, [], _∷_}
@@ -7,28 +7,27 @@ use mathlib.Core.Logic.{_⊎_}
 use Prim.Native.Nat.{ℕ, _+_, _-_, _*_, _≤_, _<_}
 use lib.Dec.{eqb}
 use lib.ListN.{length, getD}
-use Rattle.codes.specs.Bits.{bitOf, bitM, bitV}
-use Rattle.order.specs.Commands.{decodedOf}
-use Rattle.codes.specs.Times.{stepTimeOf, settleTimeOf}
-use Rattle.order.specs.declared.Command.{Command}
-use Rattle.order.specs.declared.Command.the-variants.{Restore, Seek, Step, StepIn, StepOut, ReadSector, WriteSector}
-use Rattle.order.specs.declared.Command.the-variants.{ReadAddress, ReadTrack, WriteTrack, ForceInterrupt}
-use Rattle.order.specs.declared.Decoded.the-variants.{Taken}
+use Rattle.command.specs.Bits.{isMultiple, verifiesTrack}
+use Rattle.command.specs.Commands.{decodedOf}
+use Rattle.command.specs.Times.{stepTimeOf, settleTimeOf}
+use Rattle.command.specs.declared.Command.{Command}
+use Rattle.command.specs.declared.Command.the-variants.{Restore, Seek, Step, StepIn, StepOut, ReadSector, WriteSector, ReadAddress, ReadTrack, WriteTrack, ForceInterrupt}
+use Rattle.command.specs.declared.Decoded.the-variants.{Taken}
 use Rattle.accepting.specs.Accepting.{endsAtOnce}
-use Rattle.wd.specs.Loads.{loadedOf}
+use Rattle.wd.specs.Loads.{loadRegister}
 use Rattle.hosts.specs.Hosts.{Call, loads, reads, at, Alone, EndsAt}
 use Rattle.hosts.specs.Scenes.{Scene, loaded, settling}
 
--- ---- what it is asked of
+-- ---- premises
 
 -- Of Ready, protect and track 0 nothing is asked in any byte time, and nothing of the calls in between but that none of them
 -- is an accepted command.
-pub record Asked (s : Scene) (command : Command) : Type 0 where
-  -- "every accepted command"
+pub record EndPremises (s : Scene) (command : Command) : Type 0 where
+  -- every accepted command
   pub decodes : decodedOf (s .byte) ≡ Taken command
-  pub accepted : loadedOf (s .machine) (s .lines) 0 (s .byte) .number ≡ 0
+  pub accepted : loadRegister (s .machine) (s .lines) 0 (s .byte) .number ≡ 0
   -- "without m", the bit of Type II
-  pub single : (command ≡ ReadSector) ⊎ (command ≡ WriteSector) → bitOf (s .byte) bitM ≡ false
+  pub single : (command ≡ ReadSector) ⊎ (command ≡ WriteSector) → isMultiple (s .byte) ≡ false
   -- "HLT on throughout"
   pub hlt : (n : ℕ) → s .host .lines n .hlt ≡ true
   -- "no other command accepted"
@@ -46,9 +45,8 @@ leavesDr [] = true
 leavesDr (loads l number b byte ∷ cs) = not (eqb number 3) && leavesDr cs
 leavesDr (reads l number ∷ cs) = leavesDr cs
 
--- A Seek looks at DR in each of its decisions, "after each wait", so a host that moves the target away again and again keeps
--- a Seek or a Restore stepping for ever (`proofs/KeptSeeking.antt` has one). So of these two, and of them alone, it is asked
--- that no call on the way loads DR.
+-- A Seek looks at DR in each of its decisions, "after each wait", so a host that moves the target away again and again may
+-- keep a Seek or a Restore stepping. So these two alone have the premise that no call on the way loads DR.
 abbrev pub KeepsTarget : Scene → Command → Type 0
 KeepsTarget s command =
     (command ≡ Restore) ⊎ (command ≡ Seek) → (n : ℕ) → leavesDr (s .host .calls n) ≡ true
@@ -63,13 +61,13 @@ apart a b = (a - b) + (b - a)
 abbrev pub stepping : Scene → ℕ
 stepping s = stepTimeOf (s .machine .mfm) (s .byte)
 
--- "within 5L": what a search takes, whether it finds an ID or not, and what is read or written behind the ID
+-- "within 5L": what a search takes, whether it finds an ID or not, and what is read or written after the ID
 abbrev pub fiveRounds : Scene → ℕ
 fiveRounds s = 5 * length (s .row)
 
 -- "V: load head, settle 469/938 from the next byte time, wait for HLT, then seek an ID whose track is TR"
 abbrev pub verifying : Scene → ℕ
-verifying s = cond (bitOf (s .byte) bitV) (settleTimeOf (s .machine .mfm) + fiveRounds s) 0
+verifying s = cond (verifiesTrack (s .byte)) (settleTimeOf (s .machine .mfm) + fiveRounds s) 0
 
 -- Types II and III: at once where the drive is not ready, or protected from a write; else settled, and then so many
 abbrev pub worked : Scene → Command → ℕ → ℕ
@@ -90,13 +88,13 @@ boundOf s ReadTrack = worked s ReadTrack (2 * length (s .row) - 1)
 boundOf s WriteTrack = worked s WriteTrack (2 * length (s .row) - 1)
 boundOf s ForceInterrupt = 0
 
--- ---- what it promises
+-- ---- conclusion
 
 -- "When it ends by itself, Busy goes off and INTRQ on in that byte time.", or in the load itself: "not ready ends it at once
 -- with INTRQ". A Force Interrupt is over as it is accepted, and its bit 3 alone says whether INTRQ is on.
-abbrev pub Told : Scene → Command → ℕ → Type 0
-Told s command n = (command ≡ ForceInterrupt → ⊥) → at (s .host) (loaded s) n .machine .wires .intrq ≡ true
+abbrev pub Raised : Scene → Command → ℕ → Type 0
+Raised s command n = (command ≡ ForceInterrupt → ⊥) → at (s .host) (loaded s) n .machine .wires .intrq ≡ true
 
 -- it ends by itself, in time, and says so
 abbrev pub Ends : Scene → Command → Type 0
-Ends s command = (n : ℕ) × EndsAt (s .host) (loaded s) n × (n ≤ boundOf s command) × Told s command n
+Ends s command = (n : ℕ) × EndsAt (s .host) (loaded s) n × (n ≤ boundOf s command) × Raised s command n

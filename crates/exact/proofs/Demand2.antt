@@ -1,206 +1,152 @@
 -- Demand 2: what a Write Sector wrote reads back the same. Assumes nothing.
 use mathlib.Core.Path.{_≡_, sym, ap, _∙_, subst}
-use mathlib.Core.Bool.{Bool, not}
-use Prim.Native.Nat.{ℕ, suc, _+_, _≤_}
+use Prim.Native.Nat.{ℕ, _+_, _<_}
 use native.Mathlib.Omega.{arith}
 use lib.ListN.{length}
-use Rattle.codes.specs.Bits.{bitOf, bitA}
-use Rattle.chip.specs.declared.Flags.{Flags}
-use Rattle.chip.specs.declared.Lines.{Lines}
-use Rattle.chip.specs.Status.{bitFor}
-use Rattle.wd.specs.declared.Machine.{Machine}
-use Rattle.wd.specs.Reads.{statusOf}
-use Rattle.wd.specs.Loads.{loadedOf}
-use Rattle.hosts.specs.Hosts.{Desk, at, Alone, EndsAt}
-use Rattle.hosts.specs.Bytes.{deedAt, takes, hands, taken, handed, LateAt}
-use Rattle.hosts.proofs.CutHosts.{until, at-same, served-same, until-alone, until-ends, deed-same, taken-same, handed-same}
-use Rattle.hosts.proofs.CutHosts.{late-same}
-use Rattle.exact.specs.Demand2.{Session, begun, wrote, asked, resumed, got, NoError, Commands, Asked, AskedLess}
-use Rattle.exact.specs.Demand2.{InPlace, ReadsBack}
-use Rattle.exact.proofs.NextCommand.{later}
-use Rattle.exact.proofs.Told.{write-told, read-told}
-use Rattle.exact.proofs.ReadSession.{Lone}
-use Rattle.exact.proofs.ReadBack.{lone-back}
+use Rattle.common.proofs.Cases.{never}
+use Rattle.scan.specs.declared.DataMark.{DataMark}
+use Rattle.scan.specs.Streams.{idFrom}
+use Rattle.command.specs.Orders.{orderOf}
+use Rattle.command.specs.Sizes.{sizeOf}
+use Rattle.command.specs.declared.Command.the-variants.{ReadSector, WriteSector}
+use Rattle.writing.specs.Writing.{markPlace}
+use Rattle.fields.specs.Rings.{cellsOf}
+use Rattle.hosts.specs.Hosts.{servedAt, at}
+use Rattle.hosts.specs.Bytes.{handed}
+use Rattle.hosts.proofs.Intrq.{ends-told}
+use Rattle.hosts.proofs.Collected.{listed, listed-same, listed-length}
+use Rattle.hosts.proofs.ReadThrough as through
+use Rattle.hosts.proofs.ReadStatus as status
+use Rattle.hosts.proofs.ReadThrough.{Meets}
+use Rattle.exact.specs.Demand2.{Session, writeScene, readScene, begun, resumed, Commands, ReadBackPremises, FewerPremises, InPlace, ReadsBack}
+use Rattle.exact.proofs.SectorField.{Field}
+use Rattle.exact.proofs.WriteSession as write
+use Rattle.exact.proofs.ReadSession as read
+use Rattle.exact.proofs.WrittenField.{data-byte}
 
--- ---- hosts that make no call behind the two commands
+module _ (s : Session) (p : ℕ) (a : FewerPremises s p) where
+  abbrev k : Commands s
+  k = a .commands
 
--- the same session with such hosts
-abbrev quieted : Session → Session
-quieted s =
-    record {
-      machine = s .machine;
-      lines = s .lines;
-      byte = s .byte;
-      track = s .track;
-      writer = until (s .writer) (suc (s .waited));
-      written = s .written;
-      waited = s .waited;
-      lines-then = s .lines-then;
-      byte-then = s .byte-then;
-      reader = until (s .reader) (s .read);
-      read = s .read;
-    }
+  abbrev mark : ℕ
+  mark = markPlace (s .machine .mfm)
 
--- the desk behind the Read Sector's acceptance, by what it finds
-abbrev resumedFrom : Session → Desk → Desk
-resumedFrom s d = record { machine = loadedOf (d .machine) (s .lines-then) 0 (s .byte-then) .machine; row = d .row }
+  abbrev size : ℕ
+  size = write.size s k
 
-module _ (s : Session) (k : Commands s) where
-  same-asked : asked (quieted s) ≡ asked s
-  same-asked = served-same (s .writer) (begun s) (suc (s .waited)) (s .waited) (omega arith)
+  -- the byte times of the write up to its ID's last cell, and its field
+  abbrev time : ℕ
+  time = write.time s k
 
-  same-resumed : resumed (quieted s) ≡ resumed s
-  same-resumed = ap (resumedFrom s) same-asked
+  abbrev written : Field
+  written = write.written s k
 
-  same-wrote : wrote (quieted s) ≡ wrote s
-  same-wrote =
-      ap (λ (d : Desk). d .machine) (at-same (s .writer) (begun s) (suc (s .waited)) (s .written) (omega (arith, later s k)))
+  -- the Read Sector, and the field that it meets
+  abbrev dataMark : DataMark
+  dataMark = written .data-mark
 
-  same-got : got (quieted s) ≡ got s
-  same-got =
-      ap (λ (d : Desk). at (until (s .reader) (s .read)) d (s .read) .machine) same-resumed
-      ∙ ap (λ (d : Desk). d .machine) (at-same (s .reader) (resumed s) (s .read) (s .read) (omega arith))
-
-  lone : Lone (quieted s)
-  lone =
+  abbrev meets : Meets (readScene s) (s .read)
+  meets =
       record {
-        next = until-alone (s .writer) (begun s) (suc (s .waited)) (k .next);
-        alone =
-            subst (λ (d : Desk). Alone (until (s .reader) (s .read)) d) (sym same-resumed)
-            (until-alone (s .reader) (resumed s) (s .read) (k .alone));
+        reads = read.reading s p a;
+        found = read.found s p a;
+        mark = dataMark;
+        place = mark;
+        field = read.reads-field s p a;
       }
 
-  commands : Commands (quieted s)
-  commands =
+  -- the byte time after the mark's byte
+  abbrev from : ℕ
+  from = through.from meets
+
+  -- as long as the write's
+  same-size : through.size meets ≡ size
+  same-size = read.same-size s p a
+
+  -- ---- the bytes that it hands over
+
+  byte-is : (i : ℕ) → i < size → through.byte meets i ≡ written .bytes i
+  byte-is i l = data-byte written (through.cellsOn (meets .reads) (meets .found)) (read.passes s p a) i l
+
+  handed-list : handed (s .reader) (resumed s) (s .read) ≡ listed (written .bytes) size
+  handed-list =
+      through.handed-list meets
+      ∙ ap (listed (through.byte meets)) same-size
+      ∙ listed-same (through.byte meets) (written .bytes) size byte-is
+
+  -- over the cells that the write put them in
+  handed-place :
+      (i : ℕ)
+      → i < size
+      → at (s .reader) (resumed s) (from + i) .machine .ring .position
+      ≡ at (s .writer) (begun s) (time + mark + i) .machine .ring .position
+  handed-place i l =
+      let d : write.cellTime s k i ≡ time + mark + i = omega arith in
+      through.handed-place meets i (omega (arith, same-size))
+      ∙ read.same-cell s p a (mark + i)
+      ∙ sym (write.took-place s k i l)
+      ∙ ap (λ (n : ℕ). at (s .writer) (begun s) n .machine .ring .position) d
+
+  in-place : InPlace s size (time + mark) from
+  in-place =
       record {
-        dr = k .dr;
-        writes = k .writes;
-        single = k .single;
-        accepted = k .accepted;
-        ready = k .ready;
-        ends = until-ends (s .writer) (begun s) (suc (s .waited)) (s .written) (omega (arith, later s k)) (k .ends);
-        fine = subst (λ (m : Machine). NoError (m .flags)) (sym same-wrote) (k .fine);
-        next = λ i l. lone .next i;
-        reads = k .reads;
-        same-tr = ap (λ (d : Desk). d .machine .regs .tr) same-asked ∙ k .same-tr;
-        same-sr = ap (λ (d : Desk). d .machine .regs .sr) same-asked ∙ k .same-sr;
-        same-m = k .same-m;
-        same-s = k .same-s;
-        same-e = k .same-e;
-        same-c = k .same-c;
-        accepted-then =
-            ap (λ (d : Desk). loadedOf (d .machine) (s .lines-then) 0 (s .byte-then) .number) same-asked ∙ k .accepted-then;
-        ready-then = k .ready-then;
-        alone = λ i l. lone .alone i;
-        ends-then =
-            subst (λ (d : Desk). EndsAt (until (s .reader) (s .read)) d (s .read)) (sym same-resumed)
-            (until-ends (s .reader) (resumed s) (s .read) (s .read) (omega arith) (k .ends-then));
+        within-write = omega (arith, write.over s k);
+        within-read = omega (arith, through.within meets, same-size);
+        take = write.stretch s k .during;
+        hand = λ i l. through.stretch meets .during i (omega (arith, same-size));
+        byte =
+            λ i l.
+            through.handed-byte meets i (omega (arith, same-size))
+            ∙ byte-is i l
+            ∙ write.took-byte s k i l
+            ∙ ap (λ (n : ℕ). servedAt (s .writer) n (at (s .writer) (begun s) n) .machine .regs .dr) (omega arith);
+        cell = handed-place;
       }
 
-  -- what they promise, all hosts that do the same until then do
-  unquieted : (p : ℕ) → ReadsBack (quieted s) p → ReadsBack s p
-  unquieted p r =
+  -- ---- all of it
+
+  by-length : size ≡ sizeOf (idFrom (s .machine .mfm) (cellsOf (s .track)) p .length)
+  by-length =
+      ap (λ (q : ℕ). sizeOf (idFrom (s .machine .mfm) (cellsOf (s .track)) q .length)) (read.here s p a)
+
+  read-back : ReadsBack s p
+  unfolding orderOf
+  read-back =
       record {
-        same =
-            sym
-            (ap (λ (d : Desk). handed (until (s .reader) (s .read)) d (s .read)) same-resumed
-            ∙ handed-same (s .reader) (resumed s) (s .read) (s .read) (omega arith))
-            ∙ r .same
-            ∙ took;
-        many = ap length (sym took) ∙ r .many;
-        each = (r .each .0, r .each .1, placed (r .each .2));
-        told = write-told s k;
-        told-then = read-told s k;
-        type2 = flag (λ f. f .type1) ∙ r .type2;
-        protected = flag (λ f. f .protected) ∙ r .protected;
-        missing = flag (λ f. f .missing) ∙ r .missing;
-        crc = flag (λ f. f .crc) ∙ r .crc;
-        lost =
-            λ e.
-            let (i, l, late) = r .lost (sym (flag (λ f. f .lost)) ∙ e) in (
-              i,
-              l,
-              late-same (s .reader) (resumed s) (s .read) i l
-                  (subst (λ (d : Desk). LateAt (until (s .reader) (s .read)) d i) same-resumed late),
-            );
-        deleted = flag (λ f. f .deleted) ∙ r .deleted;
-        status =
-            subst
-            (λ (m : Machine).
-            (l : Lines)
-            → statusOf m l .byte
-            ≡ bitFor (not (l .ready)) 0x80
-            + bitFor (bitOf (s .byte) bitA) 0x20
-            + bitFor (m .flags .lost) 0x04
-            + bitFor (m .wires .drq) 0x02)
-            same-got (r .status);
+        same = handed-list ∙ sym (write.took-list s k);
+        many =
+            ap length (write.took-list s k)
+            ∙ listed-length (written .bytes) size
+            ∙ by-length;
+        each = (
+          time + mark,
+          from,
+          subst (λ (n : ℕ). InPlace s n (time + mark) from) by-length in-place,
+        );
+        raised =
+            ends-told (writeScene s) WriteSector (k .writes) (λ e. never (cc)) (k .accepted) (s .written)
+            (write.alone s k) (k .ends);
+        raised-then =
+            ends-told (readScene s) ReadSector (k .reads) (λ e. never (cc)) (k .accepted-then) (s .read) (k .alone)
+            (k .ends-then);
+        type2 = status.type-two meets;
+        protected = status.unprotected meets;
+        missing = through.no-missing meets;
+        crc = status.no-crc meets;
+        lost = status.late-only meets;
+        deleted = status.told-mark meets;
+        status = λ l. status.told meets l;
       }
-    where
-      took : taken (until (s .writer) (suc (s .waited))) (begun s) (s .written) ≡ taken (s .writer) (begun s) (s .written)
-      took = taken-same (s .writer) (begun s) (suc (s .waited)) (s .written) (omega (arith, later s k))
-
-      read-at :
-          (i : ℕ) → i ≤ s .read → at (until (s .reader) (s .read)) (resumed (quieted s)) i ≡ at (s .reader) (resumed s) i
-      read-at i l =
-          ap (λ (d : Desk). at (until (s .reader) (s .read)) d i) same-resumed
-          ∙ at-same (s .reader) (resumed s) (s .read) i l
-
-      placed : {size w r : ℕ} → InPlace (quieted s) size w r → InPlace s size w r
-      placed {size} {w} {r} q =
-          let in-write = q .within-write in
-          let in-read = q .within-read in
-          record {
-            within-write = q .within-write;
-            within-read = q .within-read;
-            take =
-                λ i l.
-                ap takes (sym (deed-same (s .writer) (begun s) (suc (s .waited)) (w + i) (omega (arith, later s k))))
-                ∙ q .take i l;
-            hand =
-                λ i l.
-                ap hands
-                (sym (deed-same (s .reader) (resumed s) (s .read) (r + i) (omega arith))
-                ∙ ap (λ (d : Desk). deedAt (until (s .reader) (s .read)) d (r + i)) (sym same-resumed))
-                ∙ q .hand i l;
-            byte =
-                λ i l.
-                ap (λ (d : Desk). d .machine .regs .dr) (sym (read-at (suc (r + i)) (omega arith)))
-                ∙ q .byte i l
-                ∙ ap (λ (d : Desk). d .machine .regs .dr)
-                (served-same (s .writer) (begun s) (suc (s .waited)) (w + i) (omega (arith, later s k)));
-            cell =
-                λ i l.
-                ap (λ (d : Desk). d .machine .ring .position) (sym (read-at (r + i) (omega arith)))
-                ∙ q .cell i l
-                ∙ ap (λ (d : Desk). d .machine .ring .position)
-                (at-same (s .writer) (begun s) (suc (s .waited)) (w + i) (omega (arith, later s k)));
-          }
-
-      flag : (bit : Flags → Bool) → bit (got s .flags) ≡ bit (got (quieted s) .flags)
-      flag bit = ap (λ (m : Machine). bit (m .flags)) (sym same-got)
-
--- ---- all hosts
 
 -- where just one ID is such that the command goes by it
-pub reads-back : (s : Session) (p : ℕ) → AskedLess s p → ReadsBack s p
-reads-back s p a =
-    unquieted s (a .commands) p
-    (lone-back (quieted s) p
-    (record {
-      commands = commands s (a .commands);
-      one-match =
-          λ q inside stands suits.
-          a .one-match q inside stands
-          (record { track = suits .track; sector = suits .sector; side = suits .side; good = suits .good });
-      no-mark = a .no-mark;
-    })
-    (lone s (a .commands)))
+pub reads-back : (s : Session) (p : ℕ) → FewerPremises s p → ReadsBack s p
+reads-back = read-back
 
 -- Demand 2: "A single Write Sector accepted with the drive ready that ends by itself with no error bit reads back the same by
 -- a Read Sector on the same registers and flags (bit 0 aside, which is 0 there), the next command, accepted with the drive
 -- ready and ending by itself, where one track is lent throughout, changed by nothing but these two commands, and holds just
 -- one ID of that track and sector, with no mark in the 11 (FM) or 22 (MFM) cells after it."
-pub demand-2 : (s : Session) (p : ℕ) → Asked s p → ReadsBack s p
+pub demand-2 : (s : Session) (p : ℕ) → ReadBackPremises s p → ReadsBack s p
 demand-2 s p asked =
     reads-back s p
     (record {

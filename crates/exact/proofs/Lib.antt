@@ -1,5 +1,5 @@
 -- Demand 2, and the lemmas that it stands on.
-pub mod Laid
+pub mod RoundPlaces
 pub mod SectorField
 pub mod OneMark
 pub mod OldIds
@@ -8,7 +8,5 @@ pub mod WrittenField
 pub mod WrittenTrack
 pub mod WriteSession
 pub mod NextCommand
-pub mod Told
 pub mod ReadSession
-pub mod ReadBack
 pub mod Demand2

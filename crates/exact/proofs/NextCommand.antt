@@ -1,4 +1,4 @@
--- A Read Sector that is accepted behind a Write Sector comes when that has ended: 6 refuses it while Busy. Assumes nothing.
+-- A Read Sector that is accepted after a Write Sector comes when that has ended: 6 refuses it while Busy. Assumes nothing.
 use mathlib.Core.Path.{_≡_, refl, sym, ap, _∙_}
 use mathlib.Core.Bool.{Bool, true, false, cond}
 use Prim.Native.Nat.{ℕ, _≤_, _<_}
@@ -8,15 +8,15 @@ use lib.Dec.{leb, eqb}
 use borrow.Author.Tests.{leb-true}
 use Rattle.common.proofs.Arms.{range}
 use Rattle.common.proofs.Cases.{never, both}
-use Rattle.order.specs.Commands.{within, decodedOf}
-use Rattle.order.specs.declared.Command.the-variants.{ReadSector, ForceInterrupt}
-use Rattle.order.specs.declared.Decoded.the-variants.{Taken}
+use Rattle.command.specs.Commands.{decodedOf, within}
+use Rattle.command.specs.declared.Command.the-variants.{ReadSector, ForceInterrupt}
+use Rattle.command.specs.declared.Decoded.the-variants.{Taken}
 use Rattle.activity.specs.Limits.{busyIn}
-use Rattle.chip.specs.declared.Lines.{Lines}
-use Rattle.chip.specs.Registers.{guarded, loadRefusal}
+use Rattle.registers.specs.declared.Lines.{Lines}
+use Rattle.registers.specs.Registers.{guarded, loadRefusal}
 use Rattle.wd.specs.declared.Machine.{Machine}
 use Rattle.wd.specs.Machines.{validOf}
-use Rattle.wd.specs.Loads.{commandedOf, loadedOf}
+use Rattle.wd.specs.Loads.{commandAnswer, loadRegister}
 use Rattle.hosts.specs.Hosts.{servedAt, at}
 use Rattle.hosts.proofs.QuietCalls.{calls-activity}
 use Rattle.exact.specs.Demand2.{Session, asked, Commands}
@@ -37,15 +37,15 @@ no-force b e = by (within 0xD0 0xDF b) refl
 
 -- "any command byte outside D0-DF loaded while Busy"
 idle-then : (m : Machine) (l : Lines) (b : ℕ)
-    → loadedOf m l 0 b .number ≡ 0
+    → loadRegister m l 0 b .number ≡ 0
     → within 0xD0 0xDF b ≡ false
     → busyIn (m .activity) ≡ false
-unfolding loadedOf loadRefusal guarded
+unfolding loadRegister loadRefusal guarded
 idle-then m l b accepted other = by (busyIn (m .activity)) (validOf m) refl accepted
   where
     by : (busy valid : Bool)
         → busyIn (m .activity) ≡ busy
-        → cond (eqb (loadRefusal valid busy 0 b) 0) (commandedOf m l b (decodedOf b))
+        → cond (eqb (loadRefusal valid busy 0 b) 0) (commandAnswer m l b (decodedOf b))
         (record { number = loadRefusal valid busy 0 b; machine = m })
         .number ≡ 0
         → busyIn (m .activity) ≡ false
@@ -53,7 +53,7 @@ idle-then m l b accepted other = by (busyIn (m .activity)) (validOf m) refl acce
     by true true e h = let z : _≡_ {A = ℕ} 6 0 = simp other at h in absurd (omega arith)
     by true false e h = absurd (omega arith)
 
--- so the read comes behind the write
+-- so the read comes after the write
 pub later : (s : Session) → Commands s → s .written ≤ s .waited
 unfolding servedAt
 later s k = by (decLt (s .waited) (s .written))

@@ -15,8 +15,8 @@ use Rattle.hosts.proofs.RingLaws.{reached, id-moved, says-moved}
 use Rattle.exact.proofs.SectorField.{Field, cellOf, reachOf, numbers, kept}
 use Rattle.exact.proofs.OneMark.{Behind, no-id}
 
--- the field stands behind the ID that stands from cell p on, and all else is as it was
-pub record Over (before now : List ℕ) (p : ℕ) (f : Field) : Type 0 where
+-- the field stands after the ID that stands from cell p on, and all else is as it was
+pub record WrittenOver (before now : List ℕ) (p : ℕ) (f : Field) : Type 0 where
   pub same-length : length now ≡ length before
   pub inside : p < length before
   pub fits : idWidth (f .mfm) + reachOf f ≤ length before
@@ -28,11 +28,11 @@ pub record Over (before now : List ℕ) (p : ℕ) (f : Field) : Type 0 where
       → cellsOf now (p + idWidth (f .mfm) + j) ≡ cellsOf before (p + idWidth (f .mfm) + j)
   pub stood : (j : ℕ) → f .old j ≡ cellsOf before (p + idWidth (f .mfm) + j)
 
-module _ (before now : List ℕ) (p : ℕ) (f : Field) (o : Over before now p f) where
+module _ (before now : List ℕ) (p : ℕ) (f : Field) (o : WrittenOver before now p f) where
   abbrev width : ℕ
   width = idWidth (f .mfm)
 
-  -- behind the field, up to the ID's end in the next round
+  -- after the field, up to the ID's end in the next round
   far-same : (x : ℕ) → width + reachOf f ≤ x → x < length before + width → cellsOf now (p + x) ≡ cellsOf before (p + x)
   far-same x l h =
       let e : p + x ≡ p + width + (x - width) = omega arith in

@@ -1,4 +1,4 @@
--- The cells behind an ID as a Write Sector leaves them: the one mark in them, but for such with the byte 00, is the one that
+-- The cells after an ID as a Write Sector leaves them: the one mark in them, but for such with the byte 00, is the one that
 -- it wrote, if there was none in the cells that it kept. Assumes nothing.
 use mathlib.Core.Path.{_≡_, refl, sym, ap, _∙_}
 use mathlib.Core.Bool.{Bool, true, false}
@@ -7,16 +7,15 @@ use native.Mathlib.Decide.{decLt, ℕ-discrete}
 use native.Mathlib.Omega.{arith}
 use Rattle.scan.specs.Marks.{sync, leadOf}
 use Rattle.scan.specs.Streams.{MarkAt, IdAt, soughtAt}
-use Rattle.scan.specs.DataMarks.{markByte, isDeleted}
+use Rattle.scan.specs.DataMarks.{markByte}
 use Rattle.scan.specs.declared.DataMark.{DataMark}
 use Rattle.scan.specs.declared.DataMark.the-variants.{Fb, F8}
 use Rattle.scan.specs.declared.Sought.the-variants.{Met}
 use Rattle.scan.proofs.DataMarks.{data-marks}
-use Rattle.writing.specs.Writing.{lastKept, lastZero, markPlace, chosenMark, markCell}
+use Rattle.writing.specs.Writing.{lastKept, lastZero, markPlace, markCell}
 use Rattle.hosts.proofs.DataFields.{mark-byte}
 use Rattle.exact.specs.Demand2.{NoMark}
-use Rattle.exact.proofs.SectorField.{Field, cellOf, putCell, reachOf, numbers, kept, zeros, leads, marked, put}
-use Rattle.exact.proofs.SectorField.{put-plain}
+use Rattle.exact.proofs.SectorField.{Field, cellOf, putCell, reachOf, numbers, kept, zeros, leads, marked, put, put-plain}
 
 -- a stream that begins with the field
 pub record Behind (f : Field) (cells : ℕ → ℕ) : Type 0 where
@@ -24,7 +23,7 @@ pub record Behind (f : Field) (cells : ℕ → ℕ) : Type 0 where
   pub clear : NoMark (f .mfm) (f .old) (lastKept (f .mfm))
   pub are : (j : ℕ) → j < reachOf f → cells j ≡ cellOf f j
 
--- the first 00, the first cell behind the 00s, and the first behind the mark
+-- the first 00, the first cell after the 00s, and the first after the mark
 abbrev zero : Field → ℕ
 zero f = lastKept (f .mfm)
 
@@ -34,7 +33,7 @@ lead f = lastZero (f .mfm)
 abbrev data-first : Field → ℕ
 data-first f = markPlace (f .mfm)
 
--- behind the mark's cell none is flagged
+-- after the mark's cell none is flagged
 plain-behind :
     (f : Field) (cells : ℕ → ℕ) → Behind f cells → (j : ℕ) → data-first f ≤ j → j < reachOf f → cells j < 256
 plain-behind f cells b j l h =
@@ -44,7 +43,7 @@ plain-behind f cells b j l h =
 
 -- the one mark in the field
 abbrev OneAt : Field → ℕ → ℕ → Type 0
-OneAt f a b = (a ≡ lead f) × (b ≡ chosenMark (f .deleted))
+OneAt f a b = (a ≡ lead f) × (b ≡ markByte (f .data-mark))
 
 one-fm :
     (f : Field) (cells : ℕ → ℕ)
@@ -64,9 +63,9 @@ one-fm f cells fm v a b inside (byte, e) = by (decLt a (zero f)) (decLt a (lead 
     by (no l) (no m) (yes h) =
         let n = numbers (f .mfm) in
         let none : leadOf (f .mfm) ≡ 0 = ap leadOf fm in
-        let flagged : markCell (f .mfm) (chosenMark (f .deleted)) ≡ chosenMark (f .deleted) + 256 =
-        ap (λ (d : Bool). markCell d (chosenMark (f .deleted))) fm in
-        let q : cells a ≡ chosenMark (f .deleted) + 256 =
+        let flagged : markCell (f .mfm) (markByte (f .data-mark)) ≡ markByte (f .data-mark) + 256 =
+        ap (λ (d : Bool). markCell d (markByte (f .data-mark))) fm in
+        let q : cells a ≡ markByte (f .data-mark) + 256 =
         v .are a inside ∙ marked f a (omega (arith, n .mark-last)) ∙ flagged in
         (omega (arith, n .mark-last), omega arith)
     by (no l) (no m) (no h) = absurd (omega (arith, e, plain-behind f cells v a (omega arith) inside))
@@ -93,8 +92,8 @@ one-mfm f cells mfm v a b some inside (byte, x, y, z, e) =
         let n = numbers (f .mfm) in
         v .are j (omega (arith, n .kept-first, n .mark-last)) ∙ zeros f j (omega arith) (omega (arith, n .kept-first))
 
-    last : (j : ℕ) → suc j ≡ data-first f → cells j ≡ chosenMark (f .deleted)
-    last j q = v .are j (omega arith) ∙ marked f j q ∙ ap (λ (d : Bool). markCell d (chosenMark (f .deleted))) mfm
+    last : (j : ℕ) → suc j ≡ data-first f → cells j ≡ markByte (f .data-mark)
+    last j q = v .are j (omega arith) ∙ marked f j q ∙ ap (λ (d : Bool). markCell d (markByte (f .data-mark))) mfm
 
     old : (j : ℕ) → j < zero f → f .old j ≡ cells j
     old j l =
@@ -108,10 +107,10 @@ one-mfm f cells mfm v a b some inside (byte, x, y, z, e) =
     crosses (no q) (no r) l m = omega (arith, y, first (a + 1) (omega arith))
 
     inward : Dec (suc a ≡ data-first f) → Dec (suc (a + 1) ≡ data-first f) → lead f < a → a < data-first f → ⊥
-    inward (yes q) r l m = omega (arith, x, last a q, mark-byte (f .deleted) .1)
-    inward (no q) (yes r) l m = omega (arith, y, last (a + 1) r, mark-byte (f .deleted) .1)
+    inward (yes q) r l m = omega (arith, x, last a q, mark-byte (f .data-mark) .1)
+    inward (no q) (yes r) l m = omega (arith, y, last (a + 1) r, mark-byte (f .data-mark) .1)
     inward (no q) (no r) l m =
-        omega (arith, z, last (a + 2) (omega (arith, numbers (f .mfm) .mark-last, three)), mark-byte (f .deleted) .1)
+        omega (arith, z, last (a + 2) (omega (arith, numbers (f .mfm) .mark-last, three)), mark-byte (f .data-mark) .1)
 
     by :
         Dec (a + 3 < zero f)
@@ -141,7 +140,7 @@ pub one-mark :
     → 1 ≤ b
     → a < reachOf f
     → MarkAt (f .mfm) cells a b
-    → (a ≡ lastZero (f .mfm)) × (b ≡ chosenMark (f .deleted))
+    → (a ≡ lastZero (f .mfm)) × (b ≡ markByte (f .data-mark))
 one-mark f cells v a b some inside mark = by (f .mfm) refl
   where
     by : (mfm : Bool) → f .mfm ≡ mfm → OneAt f a b
@@ -154,22 +153,7 @@ one-mark f cells v a b some inside mark = by (f .mfm) refl
 pub no-id : (f : Field) (cells : ℕ → ℕ) → Behind f cells → (a : ℕ) → a < reachOf f → IdAt (f .mfm) cells a → ⊥
 no-id f cells v a inside id =
     let one = one-mark f cells v a 0xFE (omega arith) inside (id .mark) in
-    omega (arith, one .1, mark-byte (f .deleted) .1)
-
--- the mark as the data-mark scanner names it
-unfoldable pub markOf : Bool → DataMark
-markOf false = Fb
-markOf true = F8
-
-pub mark-byte-of : (deleted : Bool) → markByte (markOf deleted) ≡ chosenMark deleted
-unfolding markOf markByte chosenMark
-mark-byte-of false = refl
-mark-byte-of true = refl
-
-pub mark-deleted : (deleted : Bool) → isDeleted (markOf deleted) ≡ deleted
-unfolding markOf isDeleted
-mark-deleted false = refl
-mark-deleted true = refl
+    omega (arith, one .1, mark-byte (f .data-mark) .1)
 
 some-byte : (mark : DataMark) → 1 ≤ markByte mark
 unfolding markByte
@@ -184,26 +168,26 @@ module _ (f : Field) (cells : ℕ → ℕ) (v : Behind f cells) where
       let one = one-mark f cells v a (markByte mark) (some-byte mark) (omega arith) m in
       omega (arith, one .0, numbers (f .mfm) .mark-last)
 
-  there : (mfm : Bool) → f .mfm ≡ mfm → MarkAt mfm cells (lastZero (f .mfm)) (chosenMark (f .deleted))
+  there : (mfm : Bool) → f .mfm ≡ mfm → MarkAt mfm cells (lastZero (f .mfm)) (markByte (f .data-mark))
   unfolding MarkAt markCell leadOf
   there false e =
       let n = numbers (f .mfm) in
       let lead : leadOf (f .mfm) ≡ 0 = ap leadOf e in
-      let m = mark-byte (f .deleted) in (
+      let m = mark-byte (f .data-mark) in (
         omega (arith, m .1),
         v .are (lastZero (f .mfm)) (omega (arith, n .mark-last))
             ∙ marked f (lastZero (f .mfm)) (omega (arith, n .mark-last))
-            ∙ ap (λ (d : Bool). markCell d (chosenMark (f .deleted))) e,
+            ∙ ap (λ (d : Bool). markCell d (markByte (f .data-mark))) e,
       )
   there true e =
-      let m = mark-byte (f .deleted) in (
+      let m = mark-byte (f .data-mark) in (
         omega (arith, m .1),
         lead (lastZero (f .mfm)) (omega arith) (omega (arith, last)),
         lead (lastZero (f .mfm) + 1) (omega arith) (omega (arith, last)),
         lead (lastZero (f .mfm) + 2) (omega arith) (omega (arith, last)),
         v .are (lastZero (f .mfm) + 3) (omega (arith, last))
             ∙ marked f (lastZero (f .mfm) + 3) (omega (arith, last))
-            ∙ ap (λ (d : Bool). markCell d (chosenMark (f .deleted))) e,
+            ∙ ap (λ (d : Bool). markCell d (markByte (f .data-mark))) e,
       )
     where
       last : lastZero (f .mfm) + 4 ≡ markPlace (f .mfm)
@@ -215,7 +199,7 @@ module _ (f : Field) (cells : ℕ → ℕ) (v : Behind f cells) where
       lead j l h = v .are j (omega arith) ∙ leads f j l h
 
   -- it ends at its place
-  pub met-there : (j : ℕ) → suc j ≡ markPlace (f .mfm) → soughtAt (f .mfm) cells j ≡ Met (markOf (f .deleted))
+  pub met-there : (j : ℕ) → suc j ≡ markPlace (f .mfm) → soughtAt (f .mfm) cells j ≡ Met (f .data-mark)
   met-there j e =
-      data-marks (f .mfm) cells j (markOf (f .deleted)) .1
-      (lastZero (f .mfm), omega (arith, numbers (f .mfm) .mark-last), rw (mark-byte-of (f .deleted)) (there (f .mfm) refl))
+      data-marks (f .mfm) cells j (f .data-mark) .1
+      (lastZero (f .mfm), omega (arith, numbers (f .mfm) .mark-last), there (f .mfm) refl)

@@ -1,6 +1,6 @@
--- The Read Sector of demand 2 behind its Write Sector: it goes by the same ID, and meets the field that was written.
+-- The Read Sector of demand 2 after its Write Sector: it goes by the same ID, and meets the field that was written.
 -- Assumes nothing.
-use mathlib.Core.Path.{_≡_, refl, sym, ap, ap₂, _∙_}
+use mathlib.Core.Path.{_≡_, refl, sym, ap, ap₂, _∙_, subst}
 use mathlib.Core.Bool.{Bool}
 use mathlib.Core.List.{List}
 use mathlib.Core.Logic.{_⊎_, inl, inr}
@@ -9,66 +9,44 @@ use native.Mathlib.Omega.{arith}
 use lib.ListN.{length}
 use Rattle.scan.specs.Streams.{IdAt, idWidth, idFrom}
 use Rattle.scan.specs.declared.Id.{Id}
-use Rattle.codes.specs.Bits.{bitOf, bitS, bitC}
-use Rattle.order.specs.Orders.{kindOf, jobOf, orderOf}
-use Rattle.codes.specs.Sizes.{sizeOf}
-use Rattle.order.specs.declared.Order.{Order}
-use Rattle.order.specs.declared.Command.the-variants.{ReadSector, WriteSector}
-use Rattle.search.specs.Search.{sideOf, sideMatches}
+use Rattle.command.specs.Commands.{classOf}
+use Rattle.command.specs.Sizes.{sizeOf}
+use Rattle.command.specs.declared.Command.the-variants.{ReadSector}
 use Rattle.writing.specs.Writing.{lastKept, markPlace}
 use Rattle.accepting.specs.Accepting.{writes, heldBy}
 use Rattle.fields.specs.Rings.{cellsOf}
 use Rattle.wd.specs.declared.Machine.{Machine}
-use Rattle.hosts.specs.Hosts.{servedAt, at, Alone}
-use Rattle.hosts.specs.Scenes.{settling}
+use Rattle.hosts.specs.Hosts.{servedAt, at}
 use Rattle.hosts.proofs.QuietCalls.{calls-bus}
 use Rattle.hosts.proofs.Views.{View}
-use Rattle.hosts.proofs.Searching.{reads, suitsFor}
-use Rattle.hosts.proofs.Accepted.{groundOf}
-use Rattle.hosts.proofs.Suits.{suits-there}
-use Rattle.hosts.proofs.Stages as stages
 use Rattle.hosts.proofs.Idling.{same-density, left-row}
-use Rattle.hosts.proofs.RingIds.{Suiting}
-use Rattle.hosts.proofs.Found.{Found, Lost, searched}
-use Rattle.hosts.proofs.Commanded.{Goes, courseOf, starts}
-use Rattle.hosts.proofs.BehindIds.{behind-cell}
-use Rattle.hosts.proofs.ReadStages.{FieldIn, cellsIn}
-use Rattle.hosts.proofs.ReadThrough as through
-use Rattle.exact.specs.Demand2.{Session, begun, asked, resumed, writeScene, readScene, Commands, AskedLess, clearCells}
+use Rattle.hosts.specs.Scenes.{Suits}
+use Rattle.hosts.proofs.Searching.{reads-two}
+use Rattle.hosts.proofs.RingIds.{IdOnRing}
+use Rattle.hosts.proofs.Working.{Given, given-view}
+use Rattle.hosts.proofs.Found.{Lost, searched, lost-none, foundPlace, foundSize, found-on, found-cells}
+use Rattle.hosts.proofs.ReadThrough.{FieldIn, EndedRead, working, heads, FoundId, cellsOn}
+use Rattle.exact.specs.Demand2.{Session, begun, asked, writeScene, readScene, Commands, FewerPremises, clearCells}
 use Rattle.exact.proofs.SectorField.{Field}
-use Rattle.exact.proofs.OneMark.{Behind, markOf}
+use Rattle.exact.proofs.OneMark.{Behind}
 use Rattle.exact.proofs.NextCommand.{later}
-use Rattle.exact.proofs.OldIds.{Over, stood-before, stands-still}
+use Rattle.exact.proofs.OldIds.{WrittenOver, stood-before, stands-still}
 use Rattle.exact.proofs.WriteSession as write
 use Rattle.exact.proofs.WrittenField.{field-read}
 
--- orders with the same C and S go by the same IDs
-same-suits :
-    (o other : Order) (tr sr : ℕ) (id : Id)
-    → bitOf (o .byte) bitC ≡ bitOf (other .byte) bitC
-    → bitOf (o .byte) bitS ≡ bitOf (other .byte) bitS
-    → suitsFor o tr sr id ≡ suitsFor other tr sr id
-unfolding suitsFor sideMatches sideOf
-same-suits o other tr sr id c s = rw (c, s) refl
-
--- the hosts give no other command at all
-pub record Lone (s : Session) : Type 0 where
-  pub next : Alone (s .writer) (begun s)
-  pub alone : Alone (s .reader) (resumed s)
-
-module _ (s : Session) (p : ℕ) (a : AskedLess s p) (lone : Lone s) where
+module _ (s : Session) (p : ℕ) (a : FewerPremises s p) where
   abbrev k : Commands s
   k = a .commands
 
   abbrev mfm : Bool
   mfm = s .machine .mfm
 
-  -- the write: the ID that it went by, and its field
-  abbrev wrote : Found (write.course s k (lone .next)) (write.ground s k (lone .next))
-  wrote = write.found s k (lone .next)
+  -- the write: where the ID stands that it went by, and its field
+  abbrev p′ : ℕ
+  p′ = write.p s k
 
   abbrev field : Field
-  field = write.written s k (lone .next)
+  field = write.written s k
 
   -- the track as it left it
   abbrev now : List ℕ
@@ -76,20 +54,18 @@ module _ (s : Session) (p : ℕ) (a : AskedLess s p) (lone : Lone s) where
 
   -- ---- the write's ID is the one
 
-  one : (q : ℕ) (id : Id) → Suiting (write.ground s k (lone .next)) q id → q ≡ p
-  one q id on =
-      a .one-match q (on .inside) (on .stands)
-      (suits-there (writeScene s) WriteSector _ (rw (← on .says) (on .suits)))
+  one : (q : ℕ) → IdOnRing (writeScene s) q → q ≡ p
+  one q on = a .one-match q (on .inside) (on .stands) (on .suits)
 
-  pub here : wrote .p ≡ p
-  here = one (wrote .p) (wrote .id) (wrote .on-ring)
+  pub here : write.p s k ≡ p
+  here = one p′ (write.on-ring s k)
 
-  over : Over (s .track) now (wrote .p) field
-  over = write.left-over s k (lone .next)
+  over : WrittenOver (s .track) now (p′) field
+  over = write.left-over s k
 
-  behind : Behind field (λ j. cellsOf now (wrote .p + idWidth mfm + j))
+  behind : Behind field (λ j. cellsOf now (p′ + idWidth mfm + j))
   unfolding clearCells lastKept
-  behind = write.left-behind s k (lone .next) (rw here (a .no-mark))
+  behind = write.left-behind s k (rw here (a .no-mark))
 
   -- ---- the machine and the track that the read finds
 
@@ -97,129 +73,135 @@ module _ (s : Session) (p : ℕ) (a : AskedLess s p) (lone : Lone s) where
   unfolding servedAt
   same-mfm =
       ap (λ (m : Machine). m .mfm)
-      (calls-bus (at (s .writer) (begun s) (s .waited) .machine) (s .writer .calls (s .waited)) (lone .next (s .waited)))
-      ∙ same-density (s .writer) (begun s) (lone .next) (s .waited)
-      ∙ ap (λ (v : View). v .mfm) (starts (write.goes s k (lone .next)) .begin)
+      (calls-bus (at (s .writer) (begun s) (s .waited) .machine) (s .writer .calls (s .waited)) (k .next (s .waited) (omega arith)))
+      ∙ same-density (s .writer) (begun s) (s .waited)
+      ∙ ap (λ (v : View). v .mfm) (given-view (write.given s k))
 
   same-row : asked s .row ≡ now
   unfolding servedAt
   same-row =
       let e : s .written + (s .waited - s .written) ≡ s .waited = omega (arith, later s k) in
-      rw e at (left-row (s .writer) (begun s) (lone .next) (s .written) (s .waited - s .written) (k .ends .over))
+      rw e at
+      (left-row (s .writer) (begun s) (s .written) (s .waited - s .written) (λ i l. k .next i (omega arith)) (k .ends .over))
 
-  pub goes : Goes (readScene s) (s .read) ReadSector
-  unfolding kindOf jobOf heldBy writes
-  goes =
+  pub given : Given (readScene s) ReadSector
+  unfolding classOf heldBy writes
+  given =
       record {
-        is = k .reads;
+        decodes = k .reads;
         works = refl;
-        two = reads;
         accepted = k .accepted-then;
         stays = simp (k .ready-then);
-        alone = lone .alone;
-        ends = k .ends-then;
       }
 
-  abbrev pub course : stages.Command
-  course = courseOf goes
-
-  abbrev pub ground : View
-  ground = groundOf (readScene s) ReadSector
+  abbrev pub reading : EndedRead (readScene s) (s .read)
+  reading = record { given = given; alone = k .alone; ends = k .ends-then; single = k .same-m ∙ k .single }
 
   -- ---- it goes by the same ID
 
-  suits-alike :
-      (id : Id)
-      → suitsFor (ground .order) (ground .tr) (ground .sr) id
-      ≡ suitsFor (write.ground s k (lone .next) .order) (s .machine .regs .tr) (s .machine .regs .sr) id
-  unfolding orderOf
-  suits-alike id =
-      ap₂ (λ (tr sr : ℕ). suitsFor (ground .order) tr sr id) (k .same-tr) (k .same-sr)
-      ∙ same-suits (ground .order) (write.ground s k (lone .next) .order) (s .machine .regs .tr) (s .machine .regs .sr) id
-      (k .same-c) (k .same-s)
+  suits-then : (id : Id) → Suits (writeScene s) id → Suits (readScene s) id
+  suits-then id e =
+      record {
+        track = e .track ∙ sym (k .same-tr);
+        sector = e .sector ∙ sym (k .same-sr);
+        side = λ only asks. e .side only (sym (k .same-side) ∙ asks);
+        good = e .good;
+      }
+
+  suits-before : (id : Id) → Suits (readScene s) id → Suits (writeScene s) id
+  suits-before id e =
+      record {
+        track = e .track ∙ k .same-tr;
+        sector = e .sector ∙ k .same-sr;
+        side = λ only asks. e .side only (k .same-side ∙ asks);
+        good = e .good;
+      }
 
   now-length : length (asked s .row) ≡ length (s .track)
   now-length = ap length same-row ∙ over .same-length
 
+  -- what stands there now, by the machine and the row that it finds
+  abbrev idNow : ℕ → Id
+  idNow = idFrom (asked s .machine .mfm) (cellsOf (asked s .row))
+
+  abbrev idBefore : ℕ → Id
+  idBefore = idFrom mfm (cellsOf (s .track))
+
   -- the write's own ID is there for it
-  still : Suiting ground (wrote .p) (wrote .id)
+  still : IdOnRing (readScene s) p′
   still =
-      let on = wrote .on-ring in
-      let there = stands-still (s .track) now (wrote .p) field over behind (on .stands) in
+      let on = write.on-ring s k in
+      let there = stands-still (s .track) now p′ field over behind (on .stands) in
       record {
         inside = rw now-length (on .inside);
         stands = rw (same-mfm, same-row) (there .0);
-        says = rw (same-mfm, same-row) (on .says ∙ sym (there .1));
-        suits = suits-alike (wrote .id) ∙ on .suits;
+        suits =
+            suits-then (idNow p′)
+            (subst (Suits (writeScene s)) (sym ((λ i. idFrom (same-mfm i) (cellsOf (same-row i)) p′) ∙ there .1)) (on .suits));
       }
 
-  pub found : Found course ground
-  found = by (searched course ground (settling (readScene s)) (starts goes))
+  -- what stands there for the read stood there for the write
+  stood-at : (x : ℕ) → IdOnRing (readScene s) x → IdOnRing (writeScene s) x × (idNow x ≡ idBefore x)
+  stood-at x on =
+      let stands-now : IdAt mfm (cellsOf now) x = rw (same-mfm, same-row) at (on .stands) in
+      let old = stood-before (s .track) now p′ field over behind x (omega (arith, on .inside, now-length)) stands-now in
+      let same : idNow x ≡ idBefore x = (λ i. idFrom (same-mfm i) (cellsOf (same-row i)) x) ∙ old .1 in (
+        record {
+          inside = omega (arith, on .inside, now-length);
+          stands = old .0;
+          suits = subst (Suits (writeScene s)) same (suits-before (idNow x) (on .suits));
+        },
+        same,
+      )
+
+  -- so it is the one that it finds
+  pub found : FoundId reading
+  found = by (searched (working reading) reads-two (heads reading))
     where
-      by : Found course ground ⊎ Lost course ground → Found course ground
+      by : FoundId reading ⊎ Lost (working reading) reads-two (heads reading) → FoundId reading
       by (inl f) = f
-      by (inr f) = absurd (f .none (wrote .p) (wrote .id) still)
+      by (inr f) = absurd (lost-none f p′ still)
 
-  -- and it is the one that it finds
-  stood : Suiting (write.ground s k (lone .next)) (found .p) (found .id)
-  stood =
-      let on = found .on-ring in
-      let stands-now : IdAt mfm (cellsOf now) (found .p) = rw (same-mfm, same-row) at (on .stands) in
-      let says-now : found .id ≡ idFrom mfm (cellsOf now) (found .p) = rw (same-mfm, same-row) at (on .says) in
-      let old =
-      stood-before (s .track) now (wrote .p) field over behind (found .p) (omega (arith, on .inside, now-length))
-      stands-now in
-      record {
-        inside = omega (arith, on .inside, now-length);
-        stands = old .0;
-        says = says-now ∙ old .1;
-        suits = sym (suits-alike (found .id)) ∙ on .suits;
-      }
+  abbrev q : ℕ
+  q = foundPlace found
 
-  same-place : found .p ≡ wrote .p
-  same-place = one (found .p) (found .id) stood ∙ sym here
+  stood : IdOnRing (writeScene s) q × (idNow q ≡ idBefore q)
+  stood = stood-at q (found-on found)
 
-  same-id : found .id ≡ wrote .id
-  same-id =
-      stood .says
-      ∙ ap (idFrom mfm (cellsOf (s .track))) same-place
-      ∙ sym (wrote .on-ring .says)
+  same-place : q ≡ p′
+  same-place = one q (stood .0) ∙ sym here
 
   -- ---- it meets the field
 
-  abbrev there : View
-  there = through.there goes found
-
-  pub same-size : through.size goes found ≡ write.size s k (lone .next)
-  same-size = ap (λ (id : Id). sizeOf (id .length)) same-id
+  pub same-size : foundSize found ≡ write.size s k
+  same-size = ap (λ (id : Id). sizeOf (id .length)) (stood .1 ∙ ap idBefore same-place)
 
   -- what passes then is what was written
-  pub passes : Behind (write.written s k (lone .next)) (cellsIn (through.there goes found))
+  pub passes : Behind (write.written s k) (cellsOn reading found)
   passes =
       record {
         low = behind .low;
         clear = behind .clear;
         are =
             λ j l.
-            sym
-            (behind-cell there (through.there-fits goes found) (found .p) (through.behind-there goes found)
-            (asked s .row) refl j)
-            ∙ ap (λ (q : ℕ). cellsOf (asked s .row) (q + idWidth (ground .mfm) + j)) same-place
-            ∙ ap₂ (λ (d : Bool) (row : List ℕ). cellsOf row (wrote .p + idWidth d + j)) same-mfm same-row
+            found-cells found j
+            ∙ ap (λ (x : ℕ). cellsOf (asked s .row) (x + idWidth (asked s .machine .mfm) + j)) same-place
+            ∙ ap₂ (λ (d : Bool) (row : List ℕ). cellsOf row (p′ + idWidth d + j)) same-mfm same-row
             ∙ over .inner j l;
       }
 
   pub reads-field :
-      FieldIn (asked s .machine .mfm) (cellsIn (through.there goes found)) (through.size goes found)
-      (markOf (write.written s k (lone .next) .deleted)) (markPlace (s .machine .mfm))
+      FieldIn (asked s .machine .mfm) (cellsOn reading found) (foundSize found)
+      (write.written s k .data-mark) (markPlace (s .machine .mfm))
   reads-field =
-      field-read field (cellsIn there) passes (asked s .machine .mfm) (through.size goes found) same-mfm same-size
+      field-read field (cellsOn reading found) passes (asked s .machine .mfm) _ same-mfm same-size
 
-  -- the cell that is j cells behind the ID
+  -- the cell that is j cells after the ID
   pub same-cell :
       (j : ℕ)
-      → (found .p + idWidth (asked s .machine .mfm) + j) % length (asked s .row)
-      ≡ (write.found s k (lone .next) .p + idWidth (s .machine .mfm) + j) % length (s .track)
+      → (foundPlace found + idWidth (asked s .machine .mfm) + j)
+      % length (asked s .row)
+      ≡ (write.p s k + idWidth (s .machine .mfm) + j) % length (s .track)
   same-cell j =
-      ap (λ (q : ℕ). (q + idWidth (asked s .machine .mfm) + j) % length (asked s .row)) same-place
-      ∙ ap₂ (λ (d : Bool) (size : ℕ). (wrote .p + idWidth d + j) % size) same-mfm now-length
+      ap (λ (x : ℕ). (x + idWidth (asked s .machine .mfm) + j) % length (asked s .row)) same-place
+      ∙ ap₂ (λ (d : Bool) (size : ℕ). (p′ + idWidth d + j) % size) same-mfm now-length

@@ -1,4 +1,4 @@
--- The cells that a Write Sector leaves behind its ID, each as a function of its place. Assumes nothing.
+-- The cells that a Write Sector leaves after its ID, each as a function of its place. Assumes nothing.
 use mathlib.Core.Path.{_≡_, refl}
 use mathlib.Core.Bool.{Bool, true, false, cond}
 use Prim.Native.Nat.{ℕ, suc, _+_, _-_, _/_, _%_, _≤_, _<_}
@@ -7,20 +7,22 @@ use lib.Dec.{ltb, eqb}
 use borrow.Author.Tests.{lt-ltb, le-ltb, le-leb, lt-leb, eq-eqb, ne-eqb, ltb-true}
 use Rattle.common.proofs.Cases.{by-cond}
 use Rattle.scan.specs.Marks.{sync, leadOf, markCrc}
-use Rattle.writing.specs.Writing.{lastKept, lastZero, markPlace, chosenMark, markCell, preambleCell}
+use Rattle.writing.specs.Writing.{lastKept, lastZero, markPlace, markCell, preambleCell}
 use Rattle.hosts.proofs.DataFields.{sumAfter, sum-below, mark-byte, mark-word}
+use Rattle.scan.specs.DataMarks.{markByte}
+use Rattle.scan.specs.declared.DataMark.{DataMark}
 
 -- a field: its mark, its length, its bytes, and what stood in its place before it, from the ID's last cell on
 pub record Field : Type 0 where
   pub mfm : Bool
-  pub deleted : Bool
+  pub data-mark : DataMark
   pub size : ℕ
   pub bytes : ℕ → ℕ
   pub old : ℕ → ℕ
 
--- the register behind the data
+-- the register after the data
 abbrev pub sumOf : Field → ℕ
-sumOf f = sumAfter (markCrc (f .mfm) (chosenMark (f .deleted))) (f .bytes) (f .size)
+sumOf f = sumAfter (markCrc (f .mfm) (markByte (f .data-mark))) (f .bytes) (f .size)
 
 -- "the data, two CRC bytes, one FF"
 unfoldable pub putCell : Field → ℕ → ℕ
@@ -28,11 +30,11 @@ putCell f i =
     cond (ltb i (f .size)) (f .bytes i)
     (cond (eqb i (f .size)) (sumOf f / 256) (cond (eqb i (f .size + 1)) (sumOf f % 256) 0xFF))
 
--- the cell at place j, the first behind the ID's last being 0: what is kept, what leads to the mark, and what is put
+-- the cell at place j, the first after the ID's last being 0: what is kept, what leads to the mark, and what is put
 unfoldable pub cellOf : Field → ℕ → ℕ
 cellOf f j =
     cond (ltb j (markPlace (f .mfm)))
-    (preambleCell (f .mfm) (j + 1) (chosenMark (f .deleted)) (f .old j))
+    (preambleCell (f .mfm) (j + 1) (markByte (f .data-mark)) (f .old j))
     (putCell f (j - markPlace (f .mfm)))
 
 -- from the ID's last cell to the FF
@@ -101,7 +103,7 @@ module _ (f : Field) where
       )
 
   -- "flagged mark", "mark"
-  pub marked : (j : ℕ) → suc j ≡ markPlace (f .mfm) → cellOf f j ≡ markCell (f .mfm) (chosenMark (f .deleted))
+  pub marked : (j : ℕ) → suc j ≡ markPlace (f .mfm) → cellOf f j ≡ markCell (f .mfm) (markByte (f .data-mark))
   unfolding cellOf preambleCell
   marked j e =
       let p = numbers (f .mfm) in
@@ -112,7 +114,7 @@ module _ (f : Field) where
         le-ltb (j + 1) (markPlace (f .mfm)) (omega arith),
       )
 
-  -- behind the mark
+  -- after the mark
   pub put : (i : ℕ) → cellOf f (markPlace (f .mfm) + i) ≡ putCell f i
   unfolding cellOf
   put i =
@@ -148,10 +150,10 @@ module _ (f : Field) where
   module _ (low : (i : ℕ) → i < f .size → f .bytes i < 256) where
     pub sum-word : sumOf f < 65536
     sum-word =
-        let b = mark-byte (f .deleted) in
-        sum-below _ (f .bytes) (f .size) (mark-word (f .mfm) (chosenMark (f .deleted)) (omega (arith, b .1))) low
+        let b = mark-byte (f .data-mark) in
+        sum-below _ (f .bytes) (f .size) (mark-word (f .mfm) (markByte (f .data-mark)) (omega (arith, b .1))) low
 
-    -- no cell behind the mark is flagged
+    -- no cell after the mark is flagged
     pub put-plain : (i : ℕ) → putCell f i < 256
     unfolding putCell
     put-plain i =

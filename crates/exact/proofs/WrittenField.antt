@@ -9,11 +9,12 @@ use Rattle.crc.specs.Crc.{crcByte}
 use Rattle.crc.proofs.Laws.{closes}
 use Rattle.scan.specs.Marks.{byteOf, leadOf, markCrc}
 use Rattle.scan.specs.DataMarks.{markByte, windowOf}
-use Rattle.writing.specs.Writing.{lastKept, lastZero, markPlace, chosenMark}
+use Rattle.writing.specs.Writing.{lastKept, lastZero, markPlace}
 use Rattle.hosts.proofs.DataFields.{sumAfter, sum-same}
-use Rattle.hosts.proofs.ReadStages.{FieldIn}
+use Rattle.hosts.proofs.Windows.{unmet-by}
+use Rattle.hosts.proofs.ReadThrough.{FieldIn}
 use Rattle.exact.proofs.SectorField.{Field, sumOf, putCell, numbers, put, put-data, put-high, put-low, sum-word}
-use Rattle.exact.proofs.OneMark.{Behind, markOf, mark-byte-of, none-before, met-there}
+use Rattle.exact.proofs.OneMark.{Behind, none-before, met-there}
 
 -- the window is wide enough for the mark
 in-window : (mfm : Bool) → markPlace mfm ≤ windowOf mfm
@@ -22,7 +23,7 @@ in-window false = omega arith
 in-window true = omega arith
 
 module _ (f : Field) (cells : ℕ → ℕ) (b : Behind f cells) where
-  -- the cells behind the mark, as the write put them
+  -- the cells after the mark, as the write put them
   cell-put : (i : ℕ) → i < f .size + 3 → cells (markPlace (f .mfm) + i) ≡ putCell f i
   cell-put i l = b .are (markPlace (f .mfm) + i) (omega arith) ∙ put f i
 
@@ -46,14 +47,13 @@ module _ (f : Field) (cells : ℕ → ℕ) (b : Behind f cells) where
       let word : sumOf f < 65536 = sum-fits in
       ap byteOf (cell-put (f .size + 1) (omega arith) ∙ put-low f) ∙ mod-eq-of-lt (omega arith)
 
-  -- the register behind the data, and behind the two CRC cells
+  -- the register after the data, and after the two CRC cells
   abbrev register : ℕ → ℕ
-  register = sumAfter (markCrc (f .mfm) (markByte (markOf (f .deleted)))) byte
+  register = sumAfter (markCrc (f .mfm) (markByte (f .data-mark))) byte
 
   behind-data : register (f .size) ≡ sumOf f
   behind-data =
-      ap (λ (mark : ℕ). sumAfter (markCrc (f .mfm) mark) byte (f .size)) (mark-byte-of (f .deleted))
-      ∙ sum-same (markCrc (f .mfm) (chosenMark (f .deleted))) byte (f .bytes) (f .size) data-byte
+      sum-same (markCrc (f .mfm) (markByte (f .data-mark))) byte (f .bytes) (f .size) data-byte
 
   behind-crc : register (suc (suc (f .size))) ≡ 0
   unfolding sumAfter
@@ -66,13 +66,16 @@ module _ (f : Field) (cells : ℕ → ℕ) (b : Behind f cells) where
       (mfm : Bool) (size : ℕ)
       → mfm ≡ f .mfm
       → size ≡ f .size
-      → FieldIn mfm cells size (markOf (f .deleted)) (markPlace (f .mfm))
+      → FieldIn mfm cells size (f .data-mark) (markPlace (f .mfm))
   field-read mfm size density same =
       record {
         some = omega (arith, numbers (f .mfm) .mark-last);
-        near = rw density (in-window (f .mfm));
-        none = λ j l other e. none-before f cells b j l other (rw density at e);
-        met = λ j e. rw density (met-there f cells b j e);
+        first = λ u e.
+            record {
+              near = rw density (omega (arith, in-window (f .mfm)));
+              none = λ j l. rw density (unmet-by _ (none-before f cells b j (omega arith)));
+              met = rw density (met-there f cells b u e);
+            };
         closed =
             let two : suc (suc (f .size)) ≡ f .size + 2 = omega arith in
             rw (density, same) (rw two at behind-crc);

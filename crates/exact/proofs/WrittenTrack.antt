@@ -1,68 +1,74 @@
--- The track that a Write Sector leaves: its field behind the ID that it went by, and all else as it was. Assumes nothing.
+-- The track that a Write Sector leaves: its field after the ID that it went by, and all else as it was. Assumes nothing.
 use mathlib.Core.Path.{_≡_, refl, sym, ap, _∙_}
 use mathlib.Core.List.{List}
-use Prim.Native.Nat.{ℕ, _+_, _≤_, _<_}
+use Prim.Native.Nat.{ℕ, _+_, _%_, _≤_, _<_}
 use native.Mathlib.Omega.{arith}
 use lib.ListN.{length, getD}
+use Rattle.common.specs.Laid.{laidRow}
+use Rattle.common.proofs.Laid.{laid-length, laid-in, laid-out}
 use Rattle.scan.specs.Marks.{leadOf}
 use Rattle.scan.specs.Streams.{idWidth}
 use Rattle.writing.specs.Writing.{lastKept}
 use Rattle.fields.specs.Rings.{cellsOf}
-use Rattle.growth.specs.ByteTimes.{turnsOn}
-use Rattle.hosts.proofs.BehindIds.{BehindId, from-head, behind-cell}
+use Rattle.reachable.specs.ByteTimes.{turnsOn}
 use Rattle.hosts.proofs.RingLaws.{mark-moved}
 use Rattle.hosts.proofs.Views.{View}
-use Rattle.hosts.proofs.Searching.{Fits}
-use Rattle.hosts.proofs.Stages.{Command, deskAt}
+use Rattle.hosts.proofs.Passing.{place}
+use Rattle.hosts.proofs.Courses.{Course, deskAt, AnyRow}
 use Rattle.exact.specs.Demand2.{NoMark, after}
-use Rattle.exact.proofs.Laid.{laid, laid-length, laid-in, laid-out, round-apart}
+use Rattle.exact.proofs.RoundPlaces.{round-apart}
 use Rattle.exact.proofs.SectorField.{Field, cellOf, reachOf, numbers}
 use Rattle.exact.proofs.OneMark.{Behind}
-use Rattle.exact.proofs.OldIds.{Over}
-use Rattle.exact.proofs.WriteStages.{Begun, field, took, written-row, places}
+use Rattle.exact.proofs.OldIds.{WrittenOver}
+use Rattle.exact.proofs.WriteStages.{WriteBegun, field, took, written-row, places}
 
-module _ (c : Command) (t size : ℕ) (v : View) (b : Begun c t size v) (p : ℕ) (at : BehindId v p) where
+module _ {n : ℕ} (c : Course AnyRow) (t size : ℕ) (v : View) (b : WriteBegun c n t size v) (p : ℕ)
+    (inside : p < length (v .row))
+    (after-id : (j : ℕ) → turnsOn j (v .ring) .position ≡ (p + idWidth (v .mfm) + j) % length (v .row)) where
   abbrev f : Field
   f = field c t size v b
 
   abbrev now : List ℕ
-  now = deskAt c (c .n) .row
+  now = deskAt c n .row
 
   now-length : length now ≡ length (v .row)
   now-length =
       ap length (written-row c t size v b)
       ∙ laid-length (v .row) (λ j. turnsOn j (v .ring) .position) (cellOf f) (reachOf f)
 
-  fits : Fits v
-  fits = record { whole = b .whole; inside = b .held .inside }
-
   on-ring : (row : List ℕ) → length row ≡ length (v .row) → (j : ℕ)
       → cellsOf row (p + idWidth (v .mfm) + j) ≡ getD row (turnsOn j (v .ring) .position) 0
-  on-ring row e j = behind-cell v fits p at row e j
+  unfolding cellsOf
+  on-ring row e j =
+      ap (λ (x : ℕ). getD row x 0) (ap (λ (size : ℕ). (p + idWidth (v .mfm) + j) % size) e ∙ sym (after-id j))
 
-  as-laid : (q : ℕ) → getD now q 0 ≡ getD (laid (v .row) (λ j. turnsOn j (v .ring) .position) (cellOf f) (reachOf f)) q 0
+  -- so many cells from the head on
+  from-head : (j : ℕ) → turnsOn j (v .ring) .position ≡ (v .ring .position + j) % length (v .row)
+  from-head = place v (record { whole = b .whole; inside = b .held .inside })
+
+  as-laid : (q : ℕ) → getD now q 0 ≡ getD (laidRow (v .row) (λ j. turnsOn j (v .ring) .position) (cellOf f) (reachOf f)) q 0
   as-laid q = ap (λ (row : List ℕ). getD row q 0) (written-row c t size v b)
 
-  pub written-over-track : Over (v .row) now p f
+  pub written-over-track : WrittenOver (v .row) now p f
   unfolding leadOf
   written-over-track =
       record {
         same-length = now-length;
-        inside = at .inside;
+        inside = inside;
         fits = narrow;
         inner =
             λ j l.
             on-ring now now-length j
             ∙ as-laid (turnsOn j (v .ring) .position)
-            ∙ laid-in (v .row) (λ j. turnsOn j (v .ring) .position) (cellOf f) (reachOf f) (places c t size v b) j l;
+            ∙ laid-in (v .row) (λ j. turnsOn j (v .ring) .position) (cellOf f) (reachOf f) (places c t size v b) j 0 l;
         outer =
             λ j l h.
             on-ring now now-length j
             ∙ as-laid (turnsOn j (v .ring) .position)
-            ∙ laid-out (v .row) (λ j. turnsOn j (v .ring) .position) (cellOf f) (reachOf f) (turnsOn j (v .ring) .position)
+            ∙ laid-out (v .row) (λ j. turnsOn j (v .ring) .position) (cellOf f) (reachOf f) (turnsOn j (v .ring) .position) 0
             (λ i k e.
             round-apart (length (v .row)) (v .ring .position) i j (omega (arith, b .held .inside, b .whole)) (omega arith) h
-            (sym (from-head v fits p at i) ∙ sym e ∙ from-head v fits p at j))
+            (sym (from-head i) ∙ sym e ∙ from-head j))
             ∙ sym (on-ring (v .row) refl j);
         stood = λ j. sym (on-ring (v .row) refl j);
       }

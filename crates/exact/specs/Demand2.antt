@@ -1,4 +1,4 @@
--- Demand 2, reading back what was written: what it asks, and what it promises. Hosts, and the bytes that a command takes and
+-- Demand 2, reading back what was written: its premises and its conclusion. Hosts, and the bytes that a command takes and
 -- hands over, are of the crate `hosts`: `specs/Hosts.antt` and `specs/Bytes.antt`. Assumes nothing.
 use mathlib.Core.Path.{_≡_}
 use mathlib.Core.Bool.{Bool, true, false, cond, not}
@@ -7,18 +7,19 @@ use Prim.Native.Nat.{ℕ, suc, _+_, _≤_, _<_}
 use lib.ListN.{length}
 use Rattle.scan.specs.Marks.{leadOf}
 use Rattle.scan.specs.Streams.{MarkAt, IdAt, idWidth, idFrom}
-use Rattle.codes.specs.Bits.{bitOf, bitM, bitS, bitE, bitC, bitA}
-use Rattle.order.specs.Commands.{decodedOf}
-use Rattle.codes.specs.Sizes.{sizeOf}
-use Rattle.order.specs.declared.Command.the-variants.{ReadSector, WriteSector}
-use Rattle.order.specs.declared.Decoded.the-variants.{Taken}
-use Rattle.chip.specs.declared.Flags.{Flags}
-use Rattle.chip.specs.declared.Lines.{Lines}
-use Rattle.chip.specs.Status.{bitFor}
+use Rattle.command.specs.Bits.{isMultiple, settlesFirst, sideAsked, markWritten}
+use Rattle.scan.specs.DataMarks.{isDeleted}
+use Rattle.command.specs.Commands.{decodedOf}
+use Rattle.command.specs.Sizes.{sizeOf}
+use Rattle.command.specs.declared.Command.the-variants.{ReadSector, WriteSector}
+use Rattle.command.specs.declared.Decoded.the-variants.{Taken}
+use Rattle.registers.specs.declared.Flags.{Flags}
+use Rattle.registers.specs.declared.Lines.{Lines}
+use Rattle.registers.specs.Status.{bitFor}
 use Rattle.fields.specs.Rings.{cellsOf}
 use Rattle.wd.specs.declared.Machine.{Machine}
 use Rattle.wd.specs.Reads.{statusOf}
-use Rattle.wd.specs.Loads.{loadedOf}
+use Rattle.wd.specs.Loads.{loadRegister}
 use Rattle.hosts.specs.Hosts.{Host, Desk, servedAt, at, AloneUntil, EndsAt}
 use Rattle.hosts.specs.Scenes.{Scene, Suits}
 use Rattle.hosts.specs.Bytes.{deedAt, takes, hands, taken, handed, LateAt}
@@ -48,20 +49,20 @@ abbrev pub writeScene : Session → Scene
 writeScene s =
     record { machine = s .machine; lines = s .lines; byte = s .byte; row = s .track; host = s .writer }
 
--- behind the Write Sector's acceptance, and as it has ended
+-- after the Write Sector's acceptance, and as it has ended
 abbrev pub begun : Session → Desk
-begun s = record { machine = loadedOf (s .machine) (s .lines) 0 (s .byte) .machine; row = s .track }
+begun s = record { machine = loadRegister (s .machine) (s .lines) 0 (s .byte) .machine; row = s .track }
 
 abbrev pub wrote : Session → Machine
 wrote s = at (s .writer) (begun s) (s .written) .machine
 
--- what the Read Sector finds, behind any number of byte times and calls; behind its acceptance; and as it has ended
+-- what the Read Sector finds, after any number of byte times and calls; after its acceptance; and as it has ended
 abbrev pub asked : Session → Desk
 asked s = servedAt (s .writer) (s .waited) (at (s .writer) (begun s) (s .waited))
 
 abbrev pub resumed : Session → Desk
 resumed s =
-    record { machine = loadedOf (asked s .machine) (s .lines-then) 0 (s .byte-then) .machine; row = asked s .row }
+    record { machine = loadRegister (asked s .machine) (s .lines-then) 0 (s .byte-then) .machine; row = asked s .row }
 
 abbrev pub readScene : Session → Scene
 readScene s =
@@ -76,7 +77,7 @@ readScene s =
 abbrev pub got : Session → Machine
 got s = at (s .reader) (resumed s) (s .read) .machine
 
--- ---- what it is asked of: the commands
+-- ---- premises: the commands
 
 -- "with no error bit": the status bits of Types II and III that are no DRQ, Busy or deleted mark: 6, 4, 3 and 2; 7 is a line
 pub record NoError (f : Flags) : Type 0 where
@@ -91,8 +92,8 @@ pub record Commands (s : Session) : Type 0 where
   pub dr : s .machine .regs .dr < 256
   -- "A single Write Sector accepted with the drive ready": without m
   pub writes : decodedOf (s .byte) ≡ Taken WriteSector
-  pub single : bitOf (s .byte) bitM ≡ false
-  pub accepted : loadedOf (s .machine) (s .lines) 0 (s .byte) .number ≡ 0
+  pub single : isMultiple (s .byte) ≡ false
+  pub accepted : loadRegister (s .machine) (s .lines) 0 (s .byte) .number ≡ 0
   pub ready : s .lines .ready ≡ true
   -- "that ends by itself with no error bit"
   pub ends : EndsAt (s .writer) (begun s) (s .written)
@@ -103,17 +104,16 @@ pub record Commands (s : Session) : Type 0 where
   pub reads : decodedOf (s .byte-then) ≡ Taken ReadSector
   pub same-tr : asked s .machine .regs .tr ≡ s .machine .regs .tr
   pub same-sr : asked s .machine .regs .sr ≡ s .machine .regs .sr
-  pub same-m : bitOf (s .byte-then) bitM ≡ bitOf (s .byte) bitM
-  pub same-s : bitOf (s .byte-then) bitS ≡ bitOf (s .byte) bitS
-  pub same-e : bitOf (s .byte-then) bitE ≡ bitOf (s .byte) bitE
-  pub same-c : bitOf (s .byte-then) bitC ≡ bitOf (s .byte) bitC
+  pub same-m : isMultiple (s .byte-then) ≡ isMultiple (s .byte)
+  pub same-e : settlesFirst (s .byte-then) ≡ settlesFirst (s .byte)
+  pub same-side : sideAsked (s .byte-then) ≡ sideAsked (s .byte)
   -- "accepted with the drive ready and ending by itself"
-  pub accepted-then : loadedOf (asked s .machine) (s .lines-then) 0 (s .byte-then) .number ≡ 0
+  pub accepted-then : loadRegister (asked s .machine) (s .lines-then) 0 (s .byte-then) .number ≡ 0
   pub ready-then : s .lines-then .ready ≡ true
   pub alone : AloneUntil (s .reader) (resumed s) (s .read)
   pub ends-then : EndsAt (s .reader) (resumed s) (s .read)
 
--- ---- what it is asked of: the track
+-- ---- premises: the track
 
 -- "just one ID of that track and sector": it stands from cell p on, over the ring's end or not, and no other does, whatever
 -- its side, length or CRC
@@ -130,7 +130,7 @@ pub record JustOne (mfm : Bool) (track : List ℕ) (tr sr p : ℕ) : Type 0 wher
       → idFrom mfm (cellsOf track) q .sector ≡ sr
       → q ≡ p
 
--- the cells behind the ID that stands from cell p on
+-- the cells after the ID that stands from cell p on
 abbrev pub after : Bool → List ℕ → ℕ → ℕ → ℕ
 after mfm track p i = cellsOf track (p + idWidth mfm + i)
 
@@ -143,7 +143,7 @@ unfoldable pub clearCells : Bool → ℕ
 clearCells mfm = cond mfm 22 11
 
 -- "A single Write Sector .. reads back the same by a Read Sector ..": all that is asked
-pub record Asked (s : Session) (p : ℕ) : Type 0 where
+pub record ReadBackPremises (s : Session) (p : ℕ) : Type 0 where
   pub commands : Commands s
   -- "holds just one ID of that track and sector, with no mark in the 11 (FM) or 22 (MFM) cells after it"
   pub just-one : JustOne (s .machine .mfm) (s .track) (s .machine .regs .tr) (s .machine .regs .sr) p
@@ -151,7 +151,7 @@ pub record Asked (s : Session) (p : ℕ) : Type 0 where
 
 -- The same asking less of the track: of the IDs there just one is such that the command goes by it, with that track, sector
 -- and, with C, side, and a good CRC.
-pub record AskedLess (s : Session) (p : ℕ) : Type 0 where
+pub record FewerPremises (s : Session) (p : ℕ) : Type 0 where
   pub commands : Commands s
   pub one-match :
       (q : ℕ)
@@ -161,9 +161,9 @@ pub record AskedLess (s : Session) (p : ℕ) : Type 0 where
       → q ≡ p
   pub no-mark : NoMark (s .machine .mfm) (after (s .machine .mfm) (s .track) p) (clearCells (s .machine .mfm))
 
--- ---- what it promises
+-- ---- conclusion
 
--- Byte for byte: byte time w + i of the write takes a byte, and byte time r + i of the read hands one over; DR behind that is
+-- Byte for byte: byte time w + i of the write takes a byte, and byte time r + i of the read hands one over; DR after that is
 -- what DR was before the other, and both are over one cell.
 pub record InPlace (s : Session) (size w r : ℕ) : Type 0 where
   pub within-write : w + size ≤ s .written
@@ -191,8 +191,8 @@ pub record ReadsBack (s : Session) (p : ℕ) : Type 0 where
   -- each in its own byte time, as its cell passes
   pub each : (w : ℕ) × (r : ℕ) × InPlace s (sizeOf (idFrom (s .machine .mfm) (cellsOf (s .track)) p .length)) w r
   -- "When it ends by itself, Busy goes off and INTRQ on in that byte time.": of the write, and of the read
-  pub told : wrote s .wires .intrq ≡ true
-  pub told-then : got s .wires .intrq ≡ true
+  pub raised : wrote s .wires .intrq ≡ true
+  pub raised-then : got s .wires .intrq ≡ true
   -- it ends with no error bit, of Types II and III
   pub type2 : got s .flags .type1 ≡ false
   pub protected : got s .flags .protected ≡ false
@@ -200,13 +200,13 @@ pub record ReadsBack (s : Session) (p : ℕ) : Type 0 where
   pub crc : got s .flags .crc ≡ false
   -- but for what the host's own lateness brings
   pub lost : got s .flags .lost ≡ true → (k : ℕ) × (k < s .read) × LateAt (s .reader) (resumed s) k
-  -- bit 5 tells the mark that the write wrote: bit 0 of its byte
-  pub deleted : got s .flags .deleted ≡ bitOf (s .byte) bitA
+  -- bit 5 shows the mark that the write wrote
+  pub deleted : got s .flags .deleted ≡ isDeleted (markWritten (s .byte))
   -- so the status byte, under any lines, has no bits but Not Ready, the mark, Lost Data and DRQ
   pub status :
       (l : Lines)
       → statusOf (got s) l .byte
       ≡ bitFor (not (l .ready)) 0x80
-      + bitFor (bitOf (s .byte) bitA) 0x20
+      + bitFor (isDeleted (markWritten (s .byte))) 0x20
       + bitFor (got s .flags .lost) 0x04
       + bitFor (got s .wires .drq) 0x02

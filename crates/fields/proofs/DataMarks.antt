@@ -1,4 +1,4 @@
--- The data mark behind an ID is the first that stands in its window, and there is none exactly when none does.
+-- The data mark after an ID is the first that stands in its window, and there is none exactly when none does.
 -- Assumes nothing.
 use mathlib.Core.Path.{_≡_, refl, sym, ap, ap₂, _∙_}
 use mathlib.Core.Bool.{Bool}
@@ -26,7 +26,7 @@ module _ (mfm : Bool) (row : List ℕ) (place : ℕ) where
   abbrev cells : ℕ → ℕ
   cells = cellsOf row
 
-  -- the window's cells and those behind it
+  -- the window's cells and those after it
   abbrev stream : ℕ → ℕ
   stream = shift.from cells place
 

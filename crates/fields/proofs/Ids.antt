@@ -1,5 +1,5 @@
 -- The next ID is the first that stands whole in the cells from one place up to another, and there is none exactly when none
--- does; IDs do not overlap, so whoever goes on behind each one meets them all, in order. Assumes nothing.
+-- does; IDs do not overlap, so whoever goes on after each one meets them all, in order. Assumes nothing.
 use mathlib.Core.Path.{_≡_, refl, sym, ap, ap₂, _∙_}
 use mathlib.Core.Bool.{Bool, true, false}
 use mathlib.Core.List.{List}
@@ -236,7 +236,7 @@ apart mfm cells a b h g l = by (decLt b (a + idWidth mfm))
         absurd (overlap mfm cells a (b - a - 1) h (rw q at g) (omega arith))
     by (no far) = omega arith
 
--- so whoever goes on from behind an ID misses none: every later one stands whole there
+-- so whoever goes on from after an ID misses none: every later one stands whole there
 pub later-ids :
     (mfm : Bool) (cells : ℕ → ℕ) (from to a b : ℕ)
     → IdAt mfm cells a
@@ -247,7 +247,7 @@ later-ids mfm cells from to a b h l w =
     record { low = apart mfm cells a b h (w .stands) l; high = w .high; stands = w .stands }
 
 -- "IDs by cell of FE, round the ring": those that stand whole from the mark's lead before the second round of L cells up to
--- six cells behind it are those whose FE stands in that round
+-- six cells after it are those whose FE stands in that round
 pub round :
     (mfm : Bool) (cells : ℕ → ℕ) (size a : ℕ)
     → leadOf mfm ≤ size

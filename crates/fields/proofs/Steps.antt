@@ -11,8 +11,8 @@ use Rattle.scan.specs.declared.Heard.the-variants.{On, Whole}
 use Rattle.scan.specs.declared.DataMark.{DataMark}
 use Rattle.scan.specs.declared.Sought.{Sought}
 use Rattle.scan.specs.declared.Sought.the-variants.{Met}
-use Rattle.scan.specs.Ids.{heardOf}
-use Rattle.scan.specs.DataMarks.{soughtOf}
+use Rattle.scan.specs.Ids.{idStep}
+use Rattle.scan.specs.DataMarks.{dataMarkStep}
 use Rattle.fields.specs.declared.Found.the-variants as found
 use Rattle.fields.specs.declared.Behind.the-variants as behind
 use Rattle.fields.specs.Rings.{cellsOf}
@@ -27,9 +27,9 @@ heard-none mfm row left place scan none = rw none
 
 -- a cell more, and what the scanner said to it
 module _ (mfm : Bool) (row : List ℕ) (left n place after : ℕ) (more : left ≡ suc n) (next : after ≡ suc place) (scan : Scan)
-    (cell : ℕ) (said : Heard) (is : cell ≡ cellsOf row place) (says : said ≡ heardOf mfm cell scan) where
-  heard : heardOf mfm (cellsOf row place) scan ≡ said
-  heard = ap (λ (x : ℕ). heardOf mfm x scan) (sym is) ∙ sym says
+    (cell : ℕ) (said : Heard) (is : cell ≡ cellsOf row place) (says : said ≡ idStep mfm cell scan) where
+  heard : idStep mfm (cellsOf row place) scan ≡ said
+  heard = ap (λ (x : ℕ). idStep mfm x scan) (sym is) ∙ sym says
 
   pub heard-on : (s : Scan) → said ≡ On s → heardIn mfm row left place scan ≡ heardIn mfm row n after s
   unfolding heardIn foundBy
@@ -47,9 +47,9 @@ unfolding soughtIn
 sought-none mfm row place left passed run none = rw none
 
 module _ (mfm : Bool) (row : List ℕ) (place left n passed after : ℕ) (more : left ≡ suc n) (next : after ≡ suc passed)
-    (run cell : ℕ) (said : Sought) (is : cell ≡ cellsOf row (place + passed)) (says : said ≡ soughtOf mfm cell run) where
-  sought : soughtOf mfm (cellsOf row (place + passed)) run ≡ said
-  sought = ap (λ (x : ℕ). soughtOf mfm x run) (sym is) ∙ sym says
+    (run cell : ℕ) (said : Sought) (is : cell ≡ cellsOf row (place + passed)) (says : said ≡ dataMarkStep mfm cell run) where
+  sought : dataMarkStep mfm (cellsOf row (place + passed)) run ≡ said
+  sought = ap (λ (x : ℕ). dataMarkStep mfm x run) (sym is) ∙ sym says
 
   pub sought-on : (r : ℕ) → said ≡ Sought.On r → soughtIn mfm row place left passed run ≡ soughtIn mfm row place n after r
   unfolding soughtIn metBy

@@ -1,4 +1,4 @@
--- What the next ID and the data mark behind one are, by document 01's words on a ring of cells. Assumes nothing.
+-- What the next ID and the data mark after one are, by document 01's words on a ring of cells. Assumes nothing.
 use mathlib.Core.Path.{_≡_}
 use mathlib.Core.Bool.{Bool}
 use Prim.Native.Nat.{ℕ, _+_, _≤_, _<_}
@@ -21,7 +21,7 @@ pub record FirstId (mfm : Bool) (cells : ℕ → ℕ) (from to a : ℕ) (id : Id
   pub first : (b : ℕ) → b < a → IdWithin mfm cells from to b → ⊥
 
 -- "The mark byte must be among the first 30 (FM) or 43 (MFM) cells after the ID's last; in MFM its three A1s too": a data
--- mark stands from a on, behind an ID whose last cell stands just before the place, and its byte is that cell of the
+-- mark stands from a on, after an ID whose last cell stands just before the place, and its byte is that cell of the
 -- window, counted from 1
 pub record MarkWithin (mfm : Bool) (cells : ℕ → ℕ) (place : ℕ) (mark : DataMark) (a cell : ℕ) : Type 0 where
   pub low : place ≤ a

@@ -1,10 +1,10 @@
--- Write Track behind its first index pulse: document 01, "Moving bytes". Assumes nothing.
+-- Write Track after its first index pulse: document 01, "Moving bytes". Assumes nothing.
 use mathlib.Core.Bool.{Bool, false, cond, not, _||_}
 use Prim.Native.Nat.{ℕ, _+_, _/_, _%_}
 use lib.Dec.{eqb}
 use Rattle.crc.specs.Crc.{preset, crcByte}
 use Rattle.scan.specs.Marks.{sync}
-use Rattle.order.specs.Commands.{within}
+use Rattle.command.specs.Commands.{within}
 use Rattle.activity.specs.Acts.{write, takenOf}
 use Rattle.activity.specs.declared.Seen.{Seen}
 use Rattle.activity.specs.declared.Act.{Act}
@@ -36,8 +36,8 @@ laidCrc mfm crc b =
 
 -- "each from DR, 00 with Lost Data where DRQ is still on; then DRQ again; cell L - 1 ends it, DRQ off."
 -- "F7 writes two CRC cells for one byte, and DRQ comes with the second."
-unfoldable pub formatOf : Seen → ℕ → Act
-formatOf s crc =
+unfoldable pub formatCell : Seen → ℕ → Act
+formatCell s crc =
     cond (eqb (takenOf s) 0xF7)
     (write (crc / 256) (untilLast (s .last) (FormatCrc crc)) (Take false))
     (write (laidCell (s .mfm) (takenOf s))
@@ -45,5 +45,5 @@ formatOf s crc =
     (Take (not (s .last))))
 
 -- the register has taken both cells of its own CRC
-unfoldable pub formatCrcOf : Seen → ℕ → Act
-formatCrcOf s crc = write (crc % 256) (untilLast (s .last) (Format 0x0000)) (Ask (not (s .last)))
+unfoldable pub formatCrcCell : Seen → ℕ → Act
+formatCrcCell s crc = write (crc % 256) (untilLast (s .last) (Format 0x0000)) (Ask (not (s .last)))

@@ -1,6 +1,6 @@
-// Write Track behind its first index pulse.
+// Write Track after its first index pulse.
 ghost use mathlib.Core.Path.{_≡_};
-ghost use Rattle.formatting.specs.Formatting.{untilLast, presets, laidCell, laidCrc, formatOf, formatCrcOf};
+ghost use Rattle.formatting.specs.Formatting.{untilLast, presets, laidCell, laidCrc, formatCell, formatCrcCell};
 use activity::Act;
 use activity::Activity;
 use activity::Deed;
@@ -39,7 +39,7 @@ pub fn laid_cell(mfm: bool, byte: u8) -> u16
     byte as u16
 }
 
-// The register behind it.
+// The register after it.
 pub fn laid_crc(mfm: bool, crc: u16, byte: u8) -> u16
     ensures { λ r. ⌜ r ≡ laidCrc mfm crc byte ⌝ }
 {
@@ -60,7 +60,7 @@ pub fn laid_crc(mfm: bool, crc: u16, byte: u8) -> u16
 
 // A cell of a Write Track.
 pub fn format(s: Seen, crc: u16) -> Act
-    ensures { λ r. ⌜ r ≡ formatOf s crc ⌝ }
+    ensures { λ r. ⌜ r ≡ formatCell s crc ⌝ }
 {
     let byte = taken(s);
     if byte == 0xF7 {
@@ -79,7 +79,7 @@ pub fn format(s: Seen, crc: u16) -> Act
 
 // The second cell of an F7.
 pub fn format_crc(s: Seen, crc: u16) -> Act
-    ensures { λ r. ⌜ r ≡ formatCrcOf s crc ⌝ }
+    ensures { λ r. ⌜ r ≡ formatCrcCell s crc ⌝ }
 {
     Act {
         next: until_last(s.last, Activity::Format(0x0000)),

@@ -1,43 +1,45 @@
 -- A command of Types II and III that is accepted and does not end at once: how it begins. Assumes nothing.
 use mathlib.Core.Path.{_≡_, refl, ap, _∙_}
 use mathlib.Core.Bool.{Bool, true, false, cond}
-use Prim.Native.Nat.{ℕ}
+use Prim.Native.Nat.{ℕ, _<_}
 use native.Mathlib.Omega.{arith}
-use lib.Dec.{leb, eqb}
-use borrow.Author.Tests.{eqb-false, le-leb}
-use Rattle.common.proofs.Cases.{never}
-use Rattle.codes.specs.Bits.{bitOf, bitE}
-use Rattle.order.specs.Commands.{decodedOf}
-use Rattle.order.specs.Orders.{kindOf, orderOf}
-use Rattle.codes.specs.Times.{settleTimeOf}
-use Rattle.order.specs.declared.Command.{Command}
-use Rattle.order.specs.declared.Command.the-variants.{Restore}
-use Rattle.order.specs.declared.Decoded.the-variants.{Taken}
-use Rattle.order.specs.declared.Kind.{Kind}
-use Rattle.order.specs.declared.Kind.the-variants.{Works}
+use lib.Dec.{eqb}
+use borrow.Author.Tests.{eqb-false}
+use Rattle.common.proofs.Cases.{by-cond, never}
+use Rattle.command.specs.Bits.{settlesFirst}
+use Rattle.command.specs.Commands.{classOf, decodedOf, isRestore}
+use Rattle.command.specs.Orders.{orderOf}
+use Rattle.command.specs.Times.{settleTimeOf}
+use Rattle.command.specs.declared.Command.{Command}
+use Rattle.command.specs.declared.Command.the-variants.{Restore, Seek, Step, StepIn, StepOut, ReadSector, WriteSector, ReadAddress, ReadTrack, WriteTrack, ForceInterrupt}
+use Rattle.command.specs.declared.Decoded.the-variants.{Taken}
+use Rattle.command.specs.declared.Class.{Class}
+use Rattle.command.specs.declared.Class.the-variants.{Works}
 use Rattle.activity.specs.Limits.{busyIn}
 use Rattle.activity.specs.declared.Activity.the-variants.{Settle}
-use Rattle.chip.specs.declared.Lines.{Lines}
-use Rattle.chip.specs.Registers.{loadRefusal}
+use Rattle.registers.specs.declared.Lines.{Lines}
+use Rattle.registers.specs.declared.Regs.{Regs}
+use Rattle.registers.specs.declared.Flags.{Flags}
+use Rattle.registers.specs.Registers.{loadRefusal}
 use Rattle.accepting.specs.Accepting.{heldBy, endsAtOnce, beginRegs, beginFlags, worksFrom, beginActivity}
 use Rattle.wd.specs.declared.Machine.{Machine}
 use Rattle.wd.specs.Machines.{validOf}
-use Rattle.wd.specs.Loads.{begunOf, commandedOf, loadedOf}
+use Rattle.wd.specs.Loads.{commandBegun, commandAnswer, loadRegister}
 use Rattle.hosts.specs.Scenes.{Scene, loaded, settling}
 use Rattle.hosts.proofs.Views.{View, viewOf}
 
 -- ---- 0 for a load of the command register
 
-module _ (m : Machine) (l : Lines) (b : ℕ) (accepted : loadedOf m l 0 b .number ≡ 0) where
+module _ (m : Machine) (l : Lines) (b : ℕ) (accepted : loadRegister m l 0 b .number ≡ 0) where
   -- it is not refused by 2, 5 or 6
   unrefused : eqb (loadRefusal (validOf m) (busyIn (m .activity)) 0 b) 0 ≡ true
-  unfolding loadedOf
+  unfolding loadRegister
   unrefused = by (eqb (loadRefusal (validOf m) (busyIn (m .activity)) 0 b) 0) refl accepted
     where
       by :
           (free : Bool)
           → eqb (loadRefusal (validOf m) (busyIn (m .activity)) 0 b) 0 ≡ free
-          → cond free (commandedOf m l b (decodedOf b))
+          → cond free (commandAnswer m l b (decodedOf b))
           (record { number = loadRefusal (validOf m) (busyIn (m .activity)) 0 b; machine = m })
           .number ≡ 0
           → free ≡ true
@@ -52,34 +54,36 @@ module _ (m : Machine) (l : Lines) (b : ℕ) (accepted : loadedOf m l 0 b .numbe
       by true e = refl
       by false e = never (cc)
 
-  pub accepted-machine : (command : Command) → decodedOf b ≡ Taken command → loadedOf m l 0 b .machine ≡ begunOf m l b command
-  unfolding loadedOf commandedOf
+  pub accepted-machine : (command : Command) → decodedOf b ≡ Taken command → loadRegister m l 0 b .machine ≡ commandBegun m l b command
+  unfolding loadRegister commandAnswer
   accepted-machine command e = simp (unrefused, e)
 
 -- ---- how it begins
 
--- a byte of any other command is above the Restores
-pub above : (b : ℕ) (command : Command) → decodedOf b ≡ Taken command → (command ≡ Restore → ⊥) → leb b 0x0F ≡ false
-unfolding decodedOf
-above b command e other = by (leb b 0x0F) refl
-  where
-    by : (low : Bool) → leb b 0x0F ≡ low → leb b 0x0F ≡ false
-    by true f =
-        let z : Taken Restore ≡ Taken command = simp (f, le-leb 0 b (omega arith)) at e in
-        let same : command ≡ Restore = cc in
-        absurd (other same)
-    by false f = f
+pub no-other-restores : (command : Command) → (command ≡ Restore → ⊥) → isRestore command ≡ false
+unfolding isRestore
+no-other-restores Restore other = absurd (other refl)
+no-other-restores Seek other = refl
+no-other-restores Step other = refl
+no-other-restores StepIn other = refl
+no-other-restores StepOut other = refl
+no-other-restores ReadSector other = refl
+no-other-restores WriteSector other = refl
+no-other-restores ReadAddress other = refl
+no-other-restores ReadTrack other = refl
+no-other-restores WriteTrack other = refl
+no-other-restores ForceInterrupt other = refl
 
-no-restore : (command : Command) → kindOf command ≡ Works → command ≡ Restore → ⊥
-unfolding kindOf
-no-restore command works e = let z : kindOf Restore ≡ Works = rw e at works in never (cc)
+no-restore : (command : Command) → classOf command ≡ Works → command ≡ Restore → ⊥
+unfolding classOf
+no-restore command works e = let z : classOf Restore ≡ Works = rw e at works in never (cc)
 
-begun-settles : (kind : Kind) (ends mfm : Bool) (b : ℕ)
-    → kind ≡ Works
+begun-settles : (class : Class) (ends mfm : Bool) (b : ℕ)
+    → class ≡ Works
     → ends ≡ false
-    → beginActivity ends mfm b kind ≡ Settle (cond (bitOf b bitE) (settleTimeOf mfm) 0)
+    → beginActivity ends mfm b class ≡ Settle (cond (settlesFirst b) (settleTimeOf mfm) 0)
 unfolding beginActivity worksFrom
-begun-settles kind ends mfm b works goes = rw (works, goes) (by (bitOf b bitE))
+begun-settles class ends mfm b works goes = rw (works, goes) (by (settlesFirst b))
   where
     by : (settles : Bool) → cond settles (Settle (settleTimeOf mfm)) (Settle 0) ≡ Settle (cond settles (settleTimeOf mfm) 0)
     by true = refl
@@ -101,12 +105,12 @@ groundOf s command =
 
 pub begun-view :
     (s : Scene) (command : Command)
-    → loadedOf (s .machine) (s .lines) 0 (s .byte) .number ≡ 0
+    → loadRegister (s .machine) (s .lines) 0 (s .byte) .number ≡ 0
     → decodedOf (s .byte) ≡ Taken command
-    → kindOf command ≡ Works
+    → classOf command ≡ Works
     → endsAtOnce command (s .lines) ≡ false
     → viewOf (loaded s) ≡ groundOf s command
-unfolding begunOf beginRegs beginFlags
+unfolding commandBegun beginRegs beginFlags
 begun-view s command accepted e works goes =
     ap (λ (n : Machine). viewOf (record { machine = n; row = s .row })) (accepted-machine m l b accepted command e)
     ∙ (λ i. record {
@@ -117,7 +121,7 @@ begun-view s command accepted e works goes =
       sr = regs i .sr;
       missing = beginFlags (m .flags) (heldBy command l) (busyIn (m .activity)) (works i) .missing;
       order = orderOf command b (m .head .inward);
-      activity = begun-settles (kindOf command) (endsAtOnce command l) (m .mfm) b works goes i;
+      activity = begun-settles (classOf command) (endsAtOnce command l) (m .mfm) b works goes i;
     })
   where
     m : Machine
@@ -129,5 +133,30 @@ begun-view s command accepted e works goes =
     b : ℕ
     b = s .byte
 
-    regs : beginRegs (m .regs) b ≡ m .regs
-    regs = rw (above b command e (no-restore command works))
+    regs : beginRegs (m .regs) command ≡ m .regs
+    regs = rw (no-other-restores command (no-restore command works))
+
+-- ---- what it leaves in the status bits and in DR
+
+abbrev pub clearFlags : Bool → Flags
+clearFlags held =
+    record { type1 = false; protected = held; deleted = false; missing = false; crc = false; lost = false }
+
+-- "An accepted command .. clears bits 3, 4, Lost Data, type bits and DRQ", "a write under protection sets bit 6"
+module _ (s : Scene) (command : Command) (is : decodedOf (s .byte) ≡ Taken command) (works : classOf command ≡ Works)
+    (accepted : loadRegister (s .machine) (s .lines) 0 (s .byte) .number ≡ 0) where
+  taken-up : loaded s .machine ≡ commandBegun (s .machine) (s .lines) (s .byte) command
+  taken-up = accepted-machine (s .machine) (s .lines) (s .byte) accepted command is
+
+  pub given-flags : loaded s .machine .flags ≡ clearFlags (heldBy command (s .lines))
+  unfolding commandBegun beginFlags
+  given-flags =
+      ap (λ (m : Machine). m .flags) taken-up
+      ∙ ap (beginFlags (s .machine .flags) (heldBy command (s .lines)) (busyIn (s .machine .activity))) works
+
+  -- DR holds a byte after it
+  pub given-dr : s .machine .regs .dr < 256 → loaded s .machine .regs .dr < 256
+  unfolding commandBegun beginRegs
+  given-dr low =
+      rw (ap (λ (m : Machine). m .regs .dr) taken-up)
+      (by-cond (λ (r : Regs). r .dr < 256) (isRestore command) (λ e. omega arith) (λ e. low))

@@ -1,4 +1,4 @@
--- What counts in a row of byte times that stand one behind another, and in no other. Assumes nothing.
+-- What counts in a row of byte times that come one after another, and in no other. Assumes nothing.
 use mathlib.Core.Path.{_≡_, refl, sym, ap, ap₂, _∙_}
 use mathlib.Core.Bool.{Bool, true, false}
 use mathlib.Core.List.{List, [], _∷_, _++_, append-nil, map, map-append}

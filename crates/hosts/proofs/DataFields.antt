@@ -1,30 +1,24 @@
--- The numbers of a data field: its length, its mark's byte, and the register over its bytes. Assumes nothing.
+-- The numbers of a data field: its mark's byte, and the register over its bytes. Assumes nothing.
 use mathlib.Core.Path.{_≡_, refl}
 use mathlib.Core.Bool.{Bool, true, false}
 use Prim.Native.Nat.{ℕ, zero, suc, _≤_, _<_}
 use native.Mathlib.Omega.{arith}
-use borrow.Author.Tests.{leb-true}
 use Rattle.crc.specs.Crc.{preset, crcByte}
 use Rattle.crc.proofs.Laws.{byte-below, over-below}
 use Rattle.scan.specs.Marks.{markBytes, markCrc}
-use Rattle.codes.specs.Sizes.{sizes, sizeOf}
-use Rattle.act.proofs.StepWithin.{of-four}
-use Rattle.writing.specs.Writing.{chosenMark}
-
--- "128, 256, 512, 1,024"
-pub size-most : (length : ℕ) → sizeOf length ≤ 1024
-unfolding sizeOf
-size-most length = leb-true (sizeOf length) 1024 (of-four sizes 1024 refl length)
+use Rattle.scan.specs.DataMarks.{markByte}
+use Rattle.scan.specs.declared.DataMark.{DataMark}
+use Rattle.scan.specs.declared.DataMark.the-variants.{Fb, F8}
 
 -- the register after n of the bytes
 unfoldable pub sumAfter : ℕ → (ℕ → ℕ) → ℕ → ℕ
 sumAfter crc bytes zero = crc
 sumAfter crc bytes (suc n) = crcByte (sumAfter crc bytes n) (bytes n)
 
-pub mark-byte : (deleted : Bool) → (0xF8 ≤ chosenMark deleted) × (chosenMark deleted < 0xFE)
-unfolding chosenMark
-mark-byte false = (omega arith, omega arith)
-mark-byte true = (omega arith, omega arith)
+pub mark-byte : (mark : DataMark) → (0xF8 ≤ markByte mark) × (markByte mark < 0xFE)
+unfolding markByte
+mark-byte Fb = (omega arith, omega arith)
+mark-byte F8 = (omega arith, omega arith)
 
 pub mark-word : (mfm : Bool) (b : ℕ) → b < 256 → markCrc mfm b < 65536
 unfolding markCrc markBytes

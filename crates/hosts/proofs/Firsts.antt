@@ -11,14 +11,14 @@ pub record First (test : ℕ → Bool) (time : ℕ) : Type 0 where
   pub none : (k : ℕ) → k < time → test k ≡ false
 
 -- among the first n times there is one, or none at all
-abbrev pub Found : (ℕ → Bool) → ℕ → Type 0
-Found test n = ((time : ℕ) × (time < n) × First test time) ⊎ ((k : ℕ) → k < n → test k ≡ false)
+abbrev pub FirstOrNone : (ℕ → Bool) → ℕ → Type 0
+FirstOrNone test n = ((time : ℕ) × (time < n) × First test time) ⊎ ((k : ℕ) → k < n → test k ≡ false)
 
-pub first : (test : ℕ → Bool) (n : ℕ) → Found test n
+pub first : (test : ℕ → Bool) (n : ℕ) → FirstOrNone test n
 first test zero = inr (λ k l. absurd (omega arith))
 first test (suc n) = by (first test n) (test n) refl
   where
-    by : Found test n → (b : Bool) → test n ≡ b → Found test (suc n)
+    by : FirstOrNone test n → (b : Bool) → test n ≡ b → FirstOrNone test (suc n)
     by (inl (time, l, found)) b e = inl (time, omega arith, found)
     by (inr none) true e = inl (n, omega arith, record { passes = e; none = none })
     by (inr none) false e = inr (λ k l. last k l (decLt k n))

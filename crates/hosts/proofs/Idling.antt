@@ -5,25 +5,25 @@ use mathlib.Core.List.{List, [], _∷_}
 use Prim.Native.Nat.{ℕ, zero, suc, _+_}
 use native.Mathlib.Nat.{add-zero, add-suc}
 use native.Mathlib.Decide.{ℕ-discrete}
+use native.Mathlib.Omega.{arith}
 use lib.ListN.{set}
 use lib.Seq.{set-getD}
 use Rattle.common.proofs.Cases.{never}
 use Rattle.activity.specs.Acts.{pass}
 use Rattle.activity.specs.Limits.{busyIn}
 use Rattle.activity.specs.declared.Activity.{Activity}
-use Rattle.activity.specs.declared.Activity.the-variants.{Idle, Seek, Pulse, Stop, Settle, Search, Window, Data, Hunt}
-use Rattle.activity.specs.declared.Activity.the-variants.{Address, Await, TrackRead, Preamble, Put, Format, FormatCrc}
+use Rattle.activity.specs.declared.Activity.the-variants.{Idle, Seek, Pulse, Stop, Settle, Search, Window, Data, Hunt, Address, Await, TrackRead, Preamble, Put, Format, FormatCrc}
 use Rattle.activity.specs.declared.Deed.the-variants.{Nothing}
-use Rattle.act.specs.Turns.{settledOf, enteredOf, reactedOf, actOf}
-use Rattle.chip.specs.declared.Lines.{Lines}
-use Rattle.chip.specs.Rings.{seenOf}
+use Rattle.act.specs.Turns.{begunActivity, activityAct, actOf}
+use Rattle.registers.specs.declared.Lines.{Lines}
+use Rattle.registers.specs.Rings.{seenOf}
 use Rattle.wd.specs.declared.Machine.{Machine}
-use Rattle.wd.specs.Turns.{seesOf, doesOf, appliedOf, turnedOf}
-use Rattle.wd.specs.Rows.{under, passedOf, rowOf}
-use Rattle.growth.specs.Growth.{Fixed}
-use Rattle.growth.proofs.AsGiven.{byte-time-machine, byte-time-row}
-use Rattle.growth.proofs.Fixed.{as-given, further, load-fixed, read-fixed, byte-time-fixed}
-use Rattle.hosts.specs.Hosts.{Call, loads, reads, calledOf, calledAll, Host, Desk, servedAt, passesUnder, at, Alone}
+use Rattle.wd.specs.Turns.{seesOf, doesOf, actApplied, cellTurn}
+use Rattle.wd.specs.Rows.{under, byteTime, byteTimeRow}
+use Rattle.reachable.specs.Growth.{Fixed}
+use Rattle.reachable.proofs.AsGiven.{byte-time-machine, byte-time-row}
+use Rattle.reachable.proofs.Fixed.{as-given, further, load-fixed, read-fixed, byte-time-fixed}
+use Rattle.hosts.specs.Hosts.{Call, loads, reads, calledOf, calledAll, Host, Desk, servedAt, passesUnder, at, AloneUntil}
 use Rattle.hosts.proofs.QuietCalls.{calls-activity}
 use Rattle.hosts.proofs.Views.{done-machine, done-row}
 
@@ -71,17 +71,17 @@ is-idle (Format crc) e = never (cc)
 is-idle (FormatCrc crc) e = never (cc)
 
 idle-does : (m : Machine) (l : Lines) (cell : ℕ) → m .activity ≡ Idle → doesOf m l cell ≡ pass (seesOf m l cell) Idle Nothing
-unfolding actOf settledOf enteredOf reactedOf
+unfolding actOf begunActivity activityAct
 idle-does m l cell e = ap (actOf (m .order) (seesOf m l cell)) e
 
 -- ---- one byte time
 
 module _ (m : Machine) (l : Lines) (row : List ℕ) where
-  rests : m .activity ≡ Idle → (passedOf m l row .machine .activity ≡ Idle) × (rowOf m l row ≡ row)
-  unfolding turnedOf appliedOf seenOf
-  rests idle = by (ℕ-discrete (passedOf m l row .number) 0)
+  rests : m .activity ≡ Idle → (byteTime m l row .machine .activity ≡ Idle) × (byteTimeRow m l row ≡ row)
+  unfolding cellTurn actApplied seenOf
+  rests idle = by (ℕ-discrete (byteTime m l row .number) 0)
     where
-      by : Dec (passedOf m l row .number ≡ 0) → (passedOf m l row .machine .activity ≡ Idle) × (rowOf m l row ≡ row)
+      by : Dec (byteTime m l row .number ≡ 0) → (byteTime m l row .machine .activity ≡ Idle) × (byteTimeRow m l row ≡ row)
       by (yes done) =
           let does = idle-does m l (under m row) idle in (
             ap (λ (n : Machine). n .activity) (done-machine m l row done) ∙ ap (λ a. a .next) does,
@@ -96,27 +96,27 @@ module _ (m : Machine) (l : Lines) (row : List ℕ) where
 
 -- ---- any number of them
 
-module _ (h : Host) (d : Desk) (alone : Alone h d) where
-  pub same-density : (n : ℕ) → at h d n .machine .mfm ≡ d .machine .mfm
-  same-density n = host-fixed h d n .density
+pub same-density : (h : Host) (d : Desk) (n : ℕ) → at h d n .machine .mfm ≡ d .machine .mfm
+same-density h d n = host-fixed h d n .density
 
+module _ (h : Host) (d : Desk) where
   idles : (n k : ℕ)
+      → AloneUntil h d (n + k)
       → at h d n .machine .activity ≡ Idle
       → (at h d (n + k) .machine .activity ≡ Idle) × (at h d (n + k) .row ≡ at h d n .row)
   unfolding at servedAt passesUnder
-  idles n zero idle = rw (add-zero n) (idle, refl)
-  idles n (suc k) idle =
-      let before = idles n k idle in
+  idles n zero alone idle = rw (add-zero n) (idle, refl)
+  idles n (suc k) alone idle =
+      let before = idles n k (λ i l. alone i (omega arith)) idle in
       let here = rests (calledAll (at h d (n + k) .machine) (h .calls (n + k))) (h .lines (n + k)) (at h d (n + k) .row)
-      (calls-activity (at h d (n + k) .machine) (h .calls (n + k)) (alone (n + k)) ∙ before .0) in
+      (calls-activity (at h d (n + k) .machine) (h .calls (n + k)) (alone (n + k) (omega arith)) ∙ before .0) in
       rw (add-suc n k) (here .0, here .1 ∙ before .1)
 
-  -- what is not Busy stays so
-  pub stays-over :
-      (n k : ℕ) → busyIn (at h d n .machine .activity) ≡ false → busyIn (at h d (n + k) .machine .activity) ≡ false
-  unfolding busyIn
-  stays-over n k over = ap busyIn (idles n k (is-idle (at h d n .machine .activity) over) .0)
+  -- a command that is over stays so, and has left its row
+  module _ (n k : ℕ) (alone : AloneUntil h d (n + k)) (over : busyIn (at h d n .machine .activity) ≡ false) where
+    pub stays-over : busyIn (at h d (n + k) .machine .activity) ≡ false
+    unfolding busyIn
+    stays-over = ap busyIn (idles n k alone (is-idle (at h d n .machine .activity) over) .0)
 
-  -- a command that is over has left its row
-  pub left-row : (n k : ℕ) → busyIn (at h d n .machine .activity) ≡ false → at h d (n + k) .row ≡ at h d n .row
-  left-row n k over = idles n k (is-idle (at h d n .machine .activity) over) .1
+    pub left-row : at h d (n + k) .row ≡ at h d n .row
+    left-row = idles n k alone (is-idle (at h d n .machine .activity) over) .1

@@ -4,8 +4,9 @@ use mathlib.Core.Bool.{Bool, false}
 use Prim.Native.Nat.{ℕ}
 use Rattle.activity.specs.declared.Deed.{Deed}
 use Rattle.activity.specs.declared.Deed.the-variants.{Nothing, Deliver, Matched, Record, Written, Ask, Late, Take}
-use Rattle.chip.specs.declared.Regs.{Regs}
-use Rattle.deeds.specs.Deeds.{raisedSr, regsAfter}
+use Rattle.registers.specs.declared.Regs.{Regs}
+use Rattle.effects.proofs.Apart.{regsAfter}
+use Rattle.effects.specs.Effects.{raisedSr, effectOf, delivered, addressNamed, recordOver, recordRead, cellTaken, stepped, halted}
 use Rattle.hosts.proofs.Views.{loses}
 
 -- a deed that leaves TR and SR
@@ -18,34 +19,34 @@ pub record Keeps (deed : Deed) : Type 0 where
   pub found : loses deed ≡ false
 
 pub nothing-keeps : Keeps Nothing
-unfolding regsAfter loses
+unfolding regsAfter loses effectOf delivered addressNamed recordOver recordRead cellTaken stepped halted
 nothing-keeps = record { targets = λ r. (refl, refl); found = refl }
 
 pub ask-keeps : (on : Bool) → Keeps (Ask on)
-unfolding regsAfter loses
+unfolding regsAfter loses effectOf delivered addressNamed recordOver recordRead cellTaken stepped halted
 ask-keeps on = record { targets = λ r. (refl, refl); found = refl }
 
 pub take-keeps : (on : Bool) → Keeps (Take on)
-unfolding regsAfter loses
+unfolding regsAfter loses effectOf delivered addressNamed recordOver recordRead cellTaken stepped halted
 take-keeps on = record { targets = λ r. (refl, refl); found = refl }
 
 pub late-keeps : Keeps Late
-unfolding regsAfter loses
+unfolding regsAfter loses effectOf delivered addressNamed recordOver recordRead cellTaken stepped halted
 late-keeps = record { targets = λ r. (refl, refl); found = refl }
 
 pub deliver-keeps : (b : ℕ) → Keeps (Deliver b)
-unfolding regsAfter loses
+unfolding regsAfter loses effectOf delivered addressNamed recordOver recordRead cellTaken stepped halted
 deliver-keeps b = record { targets = λ r. (refl, refl); found = refl }
 
 pub matched-keeps : (bad : Bool) → Keeps (Matched bad)
-unfolding regsAfter loses
+unfolding regsAfter loses effectOf delivered addressNamed recordOver recordRead cellTaken stepped halted
 matched-keeps bad = record { targets = λ r. (refl, refl); found = refl }
 
 -- without m SR stays
 pub written-keeps : Keeps (Written false)
-unfolding regsAfter raisedSr loses
+unfolding regsAfter raisedSr loses effectOf delivered addressNamed recordOver recordRead cellTaken stepped halted
 written-keeps = record { targets = λ r. (refl, refl); found = refl }
 
 pub record-keeps : (deleted bad : Bool) → Keeps (Record deleted bad false)
-unfolding regsAfter raisedSr loses
+unfolding regsAfter raisedSr loses effectOf delivered addressNamed recordOver recordRead cellTaken stepped halted
 record-keeps deleted bad = record { targets = λ r. (refl, refl); found = refl }

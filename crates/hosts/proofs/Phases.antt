@@ -1,59 +1,45 @@
--- Byte times that leave TR and SR, one after another: how a phase of a command goes on that leaves the row too, and the
--- settling before it begins. Assumes nothing.
-use mathlib.Core.Path.{_≡_, refl, ap, _∙_}
-use mathlib.Core.Bool.{Bool, true, false, _||_, or-false, or-true}
+-- The byte times of a command, one after another from a view on: how a phase of it goes on that leaves TR and SR. Assumes
+-- nothing.
+use mathlib.Core.Path.{_≡_, refl, sym, ap, _∙_, subst}
+use mathlib.Core.Bool.{Bool, true, _||_, or-false, or-true}
 use mathlib.Core.List.{List}
-use Prim.Native.Nat.{ℕ, zero, suc, _+_, _-_, _≤_, _<_}
-use native.Mathlib.Nat.{add-zero, add-suc}
+use Prim.Native.Nat.{ℕ, zero, suc, _+_, _<_}
+use native.Mathlib.Nat.{add-zero, zero-add, add-suc}
 use native.Mathlib.Omega.{arith}
 use lib.ListN.{set}
 use lib.Seq.{set-getD}
-use borrow.Author.Tests.{ne-eqb}
 use Rattle.activity.specs.Acts.{pass, write}
 use Rattle.activity.specs.Limits.{busyIn}
 use Rattle.activity.specs.declared.Seen.{Seen}
 use Rattle.activity.specs.declared.Act.{Act}
 use Rattle.activity.specs.declared.Activity.{Activity}
-use Rattle.activity.specs.declared.Activity.the-variants.{Idle, Settle}
+use Rattle.activity.specs.declared.Activity.the-variants.{Idle}
 use Rattle.activity.specs.declared.Deed.{Deed}
 use Rattle.activity.specs.declared.Deed.the-variants.{Nothing, NotFound}
-use Rattle.act.specs.Turns.{settledOf, enteredOf, settlingOf, reactedOf, actOf}
-use Rattle.chip.specs.declared.Ring.{Ring}
-use Rattle.deeds.specs.Deeds.{regsAfter}
-use Rattle.growth.specs.ByteTimes.{turnsOn}
-use Rattle.hosts.specs.Hosts.{Host, Desk, at, Alone}
-use Rattle.hosts.proofs.RingLaws.{turns-next, turns-add}
+use Rattle.registers.specs.declared.Ring.{Ring}
+use Rattle.registers.specs.Rings.{ringNext}
+use Rattle.effects.proofs.Apart.{regsAfter, flagsAfter}
+use Rattle.reachable.specs.ByteTimes.{turnsOn}
+use Rattle.hosts.specs.Hosts.{at, BusyAt}
+use Rattle.hosts.specs.Bytes.{deedAt}
+use Rattle.hosts.proofs.RingLaws.{turns-next}
 use Rattle.hosts.proofs.Keeps.{KeepsTargets, Keeps, nothing-keeps}
-use Rattle.hosts.proofs.Views.{View, viewOf, Outside, seenIn, actIn, loses, actedIn, stepOf, DoneAt, outsideAt}
-use Rattle.hosts.proofs.Views.{next-view}
+use Rattle.hosts.proofs.Views.{View, viewWith, viewOf, Outside, cellUnder, seenIn, actIn, loses, actedIn, stepOf, Calm, calm-view}
+use Rattle.hosts.proofs.ByteTimes.{deed-view, next-flags}
+use Rattle.hosts.proofs.Courses.{Course, deskAt, besideAt, Lasts}
+use Rattle.effects.specs.Effects.{effectOf, delivered, addressNamed, recordOver, recordRead, cellTaken, stepped, halted}
 
--- a view with another row, ring, bit 4 and activity
-abbrev turned : View → List ℕ → Bool → Activity → Ring → View
-turned v row missing a r =
-    record {
-      row = row;
-      ring = r;
-      mfm = v .mfm;
-      tr = v .tr;
-      sr = v .sr;
-      missing = missing;
-      order = v .order;
-      activity = a;
-    }
+-- ---- views
 
--- how things stand n byte times behind it, where nothing but these four has changed
+-- how things stand n byte times after it, where nothing but the row, the ring, bit 4 and the activity has changed
 abbrev pub comes : View → ℕ → List ℕ → Bool → Activity → View
-comes v n row missing a = turned v row missing a (turnsOn n (v .ring))
+comes v n row = viewWith v row (turnsOn n (v .ring)) (v .tr) (v .sr)
 
 -- and the row has not
 abbrev pub stands : View → ℕ → Bool → Activity → View
 stands v n = comes v n (v .row)
 
--- and seen from n byte times on
-pub stands-on :
-    (v : View) (n k : ℕ) (missing then : Bool) (a next : Activity)
-    → stands (stands v n missing a) k then next ≡ stands v (n + k) then next
-stands-on v n k missing then a next = ap (turned v (v .row) then next) (turns-add n k (v .ring))
+-- ---- acts
 
 -- an act of a phase: nothing is written, and nothing but the activity changes
 pub record Passes (s : Seen) (act : Act) (next : Activity) : Type 0 where
@@ -69,146 +55,161 @@ rests s act next acts = record { deed = Nothing; acts = acts; keeps = nothing-ke
 abbrev pub PassesTo : View → Outside → Activity → Type 0
 PassesTo v o next = Passes (seenIn v o) (actIn v o) next
 
-abbrev pub idles : (v : View) (o : Outside) (next : Activity) → actIn v o ≡ pass (seenIn v o) next Nothing → PassesTo v o next
-idles v o = rests (seenIn v o) (actIn v o)
+-- ---- a command that has come to a view
 
--- "settle for .. byte times", one of them
-settle-one :
-    (v : View) (o : Outside) (left next : ℕ) → v .activity ≡ Settle left → left ≡ suc next → PassesTo v o (Settle next)
-unfolding actOf settledOf enteredOf reactedOf settlingOf
-settle-one v o left next e some =
-    idles v o (Settle next)
-    (simp (e, ne-eqb left 0 (omega arith))
-    (ap (λ (x : ℕ). pass (seenIn v o) (Settle x) Nothing) (omega arith)))
+module _ {Rows : List ℕ → Type 0} (c : Course Rows) (t : ℕ) (v : View) where
+  -- how things stand n byte times after byte time t, which found the view v
+  pub record Comes (n : ℕ) (row : List ℕ) (missing : Bool) (a : Activity) : Type 0 where
+    pub inside : c .going .within (t + n) ≡ true
+    pub view : viewOf (deskAt c (t + n)) ≡ comes v n row missing a
 
--- "then begin with the first byte time that has HLT on": not this one
-settle-wait : (v : View) (o : Outside) → v .activity ≡ Settle 0 → o .hlt ≡ false → PassesTo v o (Settle 0)
-unfolding actOf settledOf enteredOf reactedOf settlingOf
-settle-wait v o e off = idles v o (Settle 0) (simp (e, off))
+  module _ {n : ℕ} {row : List ℕ} {missing : Bool} {a : Activity} (here : Comes n row missing a) (busy : busyIn a ≡ true) where
+    pub comes-busy : BusyAt (c .host) (c .desk) (t + n)
+    comes-busy = ap (λ (w : View). busyIn (w .activity)) (here .view) ∙ busy
 
-module _ (h : Host) (d : Desk) (alone : Alone h d) (t : ℕ) (v : View) where
-  -- byte time t and those behind it are done, n of them, as far as they come to pass
-  abbrev pub Dones : ℕ → Type 0
-  Dones n =
-      (k : ℕ) → k < n → (missing : Bool) (a : Activity) → viewOf (at h d (t + k)) ≡ stands v k missing a → DoneAt h d (t + k)
+    pub acts-within : c .going .within (t + suc n) ≡ true
+    acts-within = rw (add-suc t n) (c .going .next (t + n) (here .inside) comes-busy)
 
-  -- one byte time more, over a row that it writes on
-  pub comes-on :
-      (n : ℕ) (row : List ℕ) (missing : Bool) (a next : Activity) (cell : ℕ) (deed : Deed)
-      → busyIn a ≡ true
-      → viewOf (at h d (t + n)) ≡ comes v n row missing a
-      → DoneAt h d (t + n)
-      → actIn (comes v n row missing a) (outsideAt h d (t + n)) ≡ write cell next deed
-      → KeepsTargets deed
-      → viewOf (at h d (t + suc n))
-      ≡ comes v (suc n) (set row (turnsOn n (v .ring) .position) cell) (missing || loses deed) next
-  unfolding stepOf
-  comes-on n row missing a next cell deed busy here done acts keeps =
-      ap (λ (k : ℕ). viewOf (at h d k)) (add-suc t n)
-      ∙ next-view h d alone (t + n) (ap (λ (w : View). busyIn (w .activity)) here ∙ busy) done
-      ∙ ap (λ (w : View). stepOf w (outsideAt h d (t + n))) here
-      ∙ ap (actedIn (comes v n row missing a) (outsideAt h d (t + n) .dr)) acts
-      ∙ kept
-    where
-      kept :
-          actedIn (comes v n row missing a) (outsideAt h d (t + n) .dr) (write cell next deed)
-          ≡ comes v (suc n) (set row (turnsOn n (v .ring) .position) cell) (missing || loses deed) next
-      kept =
-          let r = keeps (record { tr = v .tr; sr = v .sr; dr = outsideAt h d (t + n) .dr }) in
-          λ i.
-          record {
-            row = set row (turnsOn n (v .ring) .position) cell;
-            ring = turns-next n (v .ring) i;
-            mfm = v .mfm;
-            tr = r .0 i;
-            sr = r .1 i;
-            missing = missing || loses deed;
-            order = v .order;
-            activity = next;
-          }
+    module _ (rows : Rows row) where
+      calm : Calm (c .host) (c .desk) (t + n)
+      calm =
+          c .going .calm (t + n) (here .inside) comes-busy
+          (subst Rows (ap (λ (w : View). w .row) (sym (here .view))) rows)
 
-  -- and over one that it leaves
-  goes-on :
-      (n : ℕ) (missing : Bool) (a next : Activity) (deed : Deed)
-      → busyIn a ≡ true
-      → viewOf (at h d (t + n)) ≡ stands v n missing a
-      → DoneAt h d (t + n)
-      → actIn (stands v n missing a) (outsideAt h d (t + n))
-      ≡ pass (seenIn (stands v n missing a) (outsideAt h d (t + n))) next deed
-      → KeepsTargets deed
-      → viewOf (at h d (t + suc n)) ≡ stands v (suc n) (missing || loses deed) next
-  goes-on n missing a next deed busy here done acts keeps =
-      comes-on n (v .row) missing a next _ deed busy here done acts keeps
-      ∙ ap (λ (row : List ℕ). comes v (suc n) row (missing || loses deed) next)
-      (set-getD (v .row) (turnsOn n (v .ring) .position) 0)
+      -- what the byte time does, and what it leaves in the status bits
+      pub deed-at : deedAt (c .host) (c .desk) (t + n) ≡ actIn (comes v n row missing a) (besideAt c (t + n)) .deed
+      deed-at =
+          deed-view (c .host) (c .desk) (t + n) calm comes-busy
+          ∙ ap (λ (w : View). actIn w (besideAt c (t + n)) .deed) (here .view)
 
-  module _ (n : ℕ) (missing : Bool) (a : Activity) (busy : busyIn a ≡ true)
-      (here : viewOf (at h d (t + n)) ≡ stands v n missing a) (done : DoneAt h d (t + n)) where
-    -- to what the act says
-    pub passes-on :
-        (next : Activity)
-        → PassesTo (stands v n missing a) (outsideAt h d (t + n)) next
-        → viewOf (at h d (t + suc n)) ≡ stands v (suc n) missing next
-    passes-on next act =
-        goes-on n missing a next (act .deed) busy here done (act .acts) (act .keeps .targets)
-        ∙ ap (λ (b : Bool). stands v (suc n) b next) (ap (λ (b : Bool). missing || b) (act .keeps .found) ∙ or-false missing)
+      module _ {next : Activity} {cell : ℕ} {deed : Deed}
+          (acts : actIn (comes v n row missing a) (besideAt c (t + n)) ≡ write cell next deed) where
+        pub deed-is : deedAt (c .host) (c .desk) (t + n) ≡ deed
+        deed-is = deed-at ∙ ap (λ (x : Act). x .deed) acts
 
-    -- or to an end with bit 4
-    pub loses-on :
-        actIn (stands v n missing a) (outsideAt h d (t + n))
-        ≡ pass (seenIn (stands v n missing a) (outsideAt h d (t + n))) Idle NotFound
-        → viewOf (at h d (t + suc n)) ≡ stands v (suc n) true Idle
-    unfolding regsAfter loses
-    loses-on act =
-        goes-on n missing a Idle NotFound busy here done act (λ r. (refl, refl))
-        ∙ ap (λ (b : Bool). stands v (suc n) b Idle) (or-true missing)
+        pub flags-on :
+            deskAt c (t + suc n) .machine .flags
+            ≡ flagsAfter (deskAt c (t + n) .machine .flags) (besideAt c (t + n) .drq) deed
+        flags-on =
+            rw (add-suc t n)
+            (next-flags (c .host) (c .desk) (t + n) calm
+            ∙ ap (flagsAfter (deskAt c (t + n) .machine .flags) (besideAt c (t + n) .drq)) deed-is)
 
-  -- a phase: its activities, one byte time after another
-  pub lasts :
-      (missing : Bool) (course : ℕ → Activity) (n : ℕ)
-      → ((k : ℕ) → k < n → busyIn (course k) ≡ true)
-      → ((k : ℕ)
-      → k < n
-      → (o : Outside)
-      → o .hlt ≡ h .lines (t + k) .hlt
-      → PassesTo (stands v k missing (course k)) o (course (suc k)))
-      → viewOf (at h d t) ≡ stands v 0 missing (course 0)
-      → Dones n
-      → viewOf (at h d (t + n)) ≡ stands v n missing (course n)
-  lasts missing course zero busy passes begins dones = ap (λ (k : ℕ). viewOf (at h d k)) (add-zero t) ∙ begins
-  lasts missing course (suc n) busy passes begins dones =
-      let here : viewOf (at h d (t + n)) ≡ stands v n missing (course n) =
-      lasts missing course n (λ k l. busy k (omega arith)) (λ k l. passes k (omega arith)) begins
-      (λ k l. dones k (omega arith)) in
-      passes-on n missing (course n) (busy n (omega arith)) here (dones n (omega arith) missing (course n) here)
-      (course (suc n))
-      (passes n (omega arith) (outsideAt h d (t + n)) refl)
+        -- one byte time more
+        pub acts-on :
+            viewOf (deskAt c (t + suc n))
+            ≡ actedIn (comes v n row missing a) (turnsOn (suc n) (v .ring)) (besideAt c (t + n) .dr) (write cell next deed)
+        unfolding stepOf
+        acts-on =
+            ap (λ (k : ℕ). viewOf (deskAt c k)) (add-suc t n)
+            ∙ calm-view (c .host) (c .desk) calm comes-busy
+            ∙ ap (λ (w : View). stepOf w (besideAt c (t + n))) (here .view)
+            ∙ ap (actedIn (comes v n row missing a) (ringNext (turnsOn n (v .ring))) (besideAt c (t + n) .dr)) acts
+            ∙ ap (λ (r : Ring). actedIn (comes v n row missing a) r (besideAt c (t + n) .dr) (write cell next deed))
+            (turns-next n (v .ring))
 
-  -- ---- settling
+        -- that leaves TR and SR
+        comes-on :
+            KeepsTargets deed → Comes (suc n) (set row (turnsOn n (v .ring) .position) cell) (missing || loses deed) next
+        comes-on keeps =
+            let r = keeps (record { tr = v .tr; sr = v .sr; dr = besideAt c (t + n) .dr }) in
+            record {
+              inside = acts-within;
+              view =
+                  acts-on
+                  ∙ (λ i.
+                  viewWith v (set row (turnsOn n (v .ring) .position) cell) (turnsOn (suc n) (v .ring)) (r .0 i) (r .1 i)
+                  (missing || loses deed) next);
+            }
 
-  -- "settle for 469 (FM) or 938 (MFM) byte times": HLT is not looked at
-  pub settles :
-      (missing : Bool) (left n : ℕ)
-      → n ≤ left
-      → viewOf (at h d t) ≡ stands v 0 missing (Settle left)
-      → Dones n
-      → viewOf (at h d (t + n)) ≡ stands v n missing (Settle (left - n))
-  unfolding busyIn
-  settles missing left n within begins dones =
-      lasts missing (λ k. Settle (left - k)) n (λ k l. refl)
-      (λ k l o hlt. settle-one (stands v k missing (Settle (left - k))) o (left - k) (left - suc k) refl (omega arith))
-      (begins ∙ ap (λ (x : ℕ). stands v 0 missing (Settle x)) (omega arith))
-      dones
+        -- and bit 4 too
+        pub writes-on : Keeps deed → Comes (suc n) (set row (turnsOn n (v .ring) .position) cell) missing next
+        writes-on keeps =
+            subst (λ (b : Bool). Comes (suc n) (set row (turnsOn n (v .ring) .position) cell) b next)
+            (ap (λ (b : Bool). missing || b) (keeps .found) ∙ or-false missing)
+            (comes-on (keeps .targets))
 
-  -- ".. then begin with the first byte time that has HLT on": until then nothing happens
-  pub waits :
-      (missing : Bool) (n : ℕ)
-      → ((k : ℕ) → k < n → h .lines (t + k) .hlt ≡ false)
-      → viewOf (at h d t) ≡ stands v 0 missing (Settle 0)
-      → Dones n
-      → viewOf (at h d (t + n)) ≡ stands v n missing (Settle 0)
-  unfolding busyIn
-  waits missing n off begins dones =
-      lasts missing (λ k. Settle 0) n (λ k l. refl)
-      (λ k l o hlt. settle-wait (stands v k missing (Settle 0)) o refl (hlt ∙ off k l))
-      begins dones
+  -- ---- over a row that it leaves
+
+  abbrev pub Stands : ℕ → Bool → Activity → Type 0
+  Stands n = Comes n (v .row)
+
+  pub stands-lasts : {n : ℕ} {missing : Bool} {a : Activity} → Stands n missing a → busyIn a ≡ true → Lasts c (v .row) (t + n)
+  stands-lasts here busy = record { busy = comes-busy here busy; same = ap (λ (w : View). w .row) (here .view) }
+
+  module _ (rows : Rows (v .row)) where
+    module _ {n : ℕ} {missing : Bool} {a : Activity} (here : Stands n missing a) (busy : busyIn a ≡ true) where
+      -- the cell that passes leaves the row as it was
+      left-row : {then : Bool} {next : Activity}
+          → Comes (suc n) (set (v .row) (turnsOn n (v .ring) .position) (cellUnder (stands v n missing a))) then next
+          → Stands (suc n) then next
+      left-row {then} {next} =
+          subst (λ (row : List ℕ). Comes (suc n) row then next) (set-getD (v .row) (turnsOn n (v .ring) .position) 0)
+
+      -- to what the act says
+      pub passes-on :
+          {next : Activity} → PassesTo (stands v n missing a) (besideAt c (t + n)) next → Stands (suc n) missing next
+      passes-on act = left-row (writes-on here busy rows (act .acts) (act .keeps))
+
+      -- or to an end with bit 4
+      pub loses-on :
+          actIn (stands v n missing a) (besideAt c (t + n))
+          ≡ pass (seenIn (stands v n missing a) (besideAt c (t + n))) Idle NotFound
+          → Stands (suc n) true Idle
+      unfolding regsAfter loses effectOf delivered addressNamed recordOver recordRead cellTaken stepped halted
+      loses-on act =
+          left-row
+          (subst
+          (λ (b : Bool).
+          Comes (suc n) (set (v .row) (turnsOn n (v .ring) .position) (cellUnder (stands v n missing a))) b Idle)
+          (or-true missing)
+          (comes-on here busy rows act (λ r. (refl, refl))))
+
+    -- a phase from byte time j on: its activities, one byte time after another
+    pub lasts-from :
+        {missing : Bool} (j : ℕ) (doing : ℕ → Activity) (n : ℕ)
+        → ((k : ℕ) → k < n → busyIn (doing k) ≡ true)
+        → ((k : ℕ)
+        → k < n
+        → (o : Outside)
+        → o .hlt ≡ c .host .lines (t + (j + k)) .hlt
+        → PassesTo (stands v (j + k) missing (doing k)) o (doing (suc k)))
+        → Stands j missing (doing 0)
+        → Stands (j + n) missing (doing n)
+    lasts-from j doing zero busy passes begins = rw (add-zero j) begins
+    lasts-from {missing} j doing (suc n) busy passes begins =
+        let here : Stands (j + n) missing (doing n) =
+        lasts-from j doing n (λ k l. busy k (omega arith)) (λ k l. passes k (omega arith)) begins in
+        rw (add-suc j n)
+        (passes-on here (busy n (omega arith)) (passes n (omega arith) (besideAt c (t + (j + n))) refl))
+
+    -- and one from the view itself on
+    pub lasts :
+        {missing : Bool} (doing : ℕ → Activity) (n : ℕ)
+        → ((k : ℕ) → k < n → busyIn (doing k) ≡ true)
+        → ((k : ℕ)
+        → k < n
+        → (o : Outside)
+        → o .hlt ≡ c .host .lines (t + k) .hlt
+        → PassesTo (stands v k missing (doing k)) o (doing (suc k)))
+        → Stands 0 missing (doing 0)
+        → Stands n missing (doing n)
+    lasts {missing} doing n busy passes begins =
+        rw (zero-add n) at
+        (lasts-from 0 doing n busy
+        (λ k l o same.
+        subst (λ (j : ℕ). PassesTo (stands v j missing (doing k)) o (doing (suc k))) (sym (zero-add k))
+        (passes k l o (same ∙ ap (λ (j : ℕ). c .host .lines (t + j) .hlt) (zero-add k))))
+        begins)
+
+-- seen from there
+pub from-there :
+    {Rows : List ℕ → Type 0} (c : Course Rows) (t : ℕ) (v : View) {n : ℕ} {missing : Bool} {a : Activity}
+    → Stands c t v n missing a
+    → Stands c (t + n) (stands v n missing a) 0 missing a
+unfolding turnsOn
+from-there c t v {n} here =
+    record {
+      inside = rw (add-zero (t + n)) (here .inside);
+      view = ap (λ (k : ℕ). viewOf (deskAt c k)) (add-zero (t + n)) ∙ here .view;
+    }

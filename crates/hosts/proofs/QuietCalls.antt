@@ -1,26 +1,26 @@
 -- Register calls of which none is an accepted command, any number of them, under any lines, change registers and wires only,
 -- and while Busy no register but DR. Assumes nothing.
-use mathlib.Core.Path.{_≡_, refl, ap, _∙_}
+use mathlib.Core.Path.{_≡_, refl, sym, ap, _∙_, subst}
 use mathlib.Core.Bool.{Bool, true, false, cond, _&&_, _||_}
 use mathlib.Core.List.{List, [], _∷_}
 use Prim.Native.Nat.{ℕ, _<_}
 use lib.Dec.{leb, eqb}
 use Rattle.common.proofs.Cases.{by-cond, never}
-use Rattle.order.specs.Commands.{decodedOf}
-use Rattle.order.specs.declared.Decoded.{Decoded}
-use Rattle.order.specs.declared.Decoded.the-variants.{Taken, NoCommand}
+use Rattle.command.specs.Commands.{decodedOf}
+use Rattle.command.specs.declared.Decoded.{Decoded}
+use Rattle.command.specs.declared.Decoded.the-variants.{Taken, NoCommand}
 use Rattle.activity.specs.Limits.{busyIn}
-use Rattle.chip.specs.declared.Lines.{Lines}
-use Rattle.chip.specs.declared.Regs.{Regs}
-use Rattle.chip.specs.Registers.{readRefusal, guarded, loadRefusal, loadRegs}
+use Rattle.registers.specs.declared.Lines.{Lines}
+use Rattle.registers.specs.declared.Regs.{Regs}
+use Rattle.registers.specs.Registers.{readRefusal, guarded, loadRefusal, loadRegs, loadWires}
 use Rattle.wd.specs.declared.Machine.{Machine}
 use Rattle.wd.specs.declared.Loaded.{Loaded}
 use Rattle.wd.specs.declared.Read.{Read}
 use Rattle.wd.specs.Machines.{validOf}
-use Rattle.wd.specs.Reads.{withBus, readOf}
-use Rattle.wd.specs.Loads.{commandedOf, loadedOf}
-use Rattle.growth.proofs.Valid.{Valid, load-valid, read-valid}
-use Rattle.hosts.specs.Hosts.{Call, loads, reads, calledOf, commands, calledAll, NoCommand as Quiet, none, more}
+use Rattle.wd.specs.Reads.{withBus, readRegister}
+use Rattle.wd.specs.Loads.{commandAnswer, loadRegister}
+use Rattle.reachable.proofs.Valid.{Valid, load-valid, read-valid}
+use Rattle.hosts.specs.Hosts.{Call, loads, reads, calledOf, commands, calledAll, NoneAccepted, none, more}
 
 -- the machine with the registers and wires of another
 abbrev pub busFrom : Machine → Machine → Machine
@@ -45,10 +45,10 @@ unguarded true number b =
     by false false zero e = (refl, refl)
 unguarded false number b = λ e. never (cc)
 
-pub commanded-bus : (m : Machine) (l : Lines) (b : ℕ) (d : Decoded)
-    → eqb (commandedOf m l b d .number) 0 ≡ false
-    → commandedOf m l b d .machine ≡ m
-unfolding commandedOf
+commanded-bus : (m : Machine) (l : Lines) (b : ℕ) (d : Decoded)
+    → eqb (commandAnswer m l b d .number) 0 ≡ false
+    → commandAnswer m l b d .machine ≡ m
+unfolding commandAnswer
 commanded-bus m l b (Taken command) e = never (cc)
 commanded-bus m l b NoCommand e = refl
 
@@ -57,65 +57,60 @@ module _ (m : Machine) (l : Lines) (number b : ℕ) where
   abbrev NoneIn : Loaded → Type 0
   NoneIn q = (eqb number 0 && eqb (q .number) 0) ≡ false
 
-  load-bus : NoneIn (loadedOf m l number b) → loadedOf m l number b .machine ≡ busFrom m (loadedOf m l number b .machine)
-  unfolding loadedOf
-  load-bus =
-      by-cond (λ (q : Loaded). NoneIn q → q .machine ≡ busFrom m (q .machine))
+  -- it leaves the machine, or sets a register
+  pub load-by :
+      (P : Machine → Type 0)
+      → P m
+      → (eqb number 0 ≡ false
+      → eqb (loadRefusal (validOf m) (busyIn (m .activity)) number b) 0 ≡ true
+      → P (withBus m (loadRegs (m .regs) number b) (loadWires (m .wires) number)))
+      → (eqb number 0 && eqb (loadRegister m l number b .number) 0) ≡ false
+      → P (loadRegister m l number b .machine)
+  unfolding loadRegister
+  load-by P left sets =
+      by-cond (λ (q : Loaded). NoneIn q → P (q .machine))
       (eqb (loadRefusal (validOf m) (busyIn (m .activity)) number b) 0)
       (λ taken.
-      by-cond (λ (q : Loaded). NoneIn q → q .machine ≡ busFrom m (q .machine)) (eqb number 0)
-      (λ zero quiet.
-      let same = commanded-bus m l b (decodedOf b) (rw zero at quiet) in
-      rw same refl)
-      (λ other quiet. refl))
-      (λ refused quiet. refl)
+      by-cond (λ (q : Loaded). NoneIn q → P (q .machine)) (eqb number 0)
+      (λ zero quiet. subst P (sym (commanded-bus m l b (decodedOf b) (rw zero at quiet))) left)
+      (λ other quiet. sets other taken))
+      (λ refused quiet. left)
 
-  abbrev SameTargets : Machine → Type 0
-  SameTargets n = (n .regs .tr ≡ m .regs .tr) × (n .regs .sr ≡ m .regs .sr)
+  load-bus : NoneIn (loadRegister m l number b) → loadRegister m l number b .machine ≡ busFrom m (loadRegister m l number b .machine)
+  load-bus = load-by (λ (n : Machine). n ≡ busFrom m n) refl (λ other taken. refl)
 
   -- 6: "TR, SR .. loaded while Busy"
-  load-targets : busyIn (m .activity) ≡ true → NoneIn (loadedOf m l number b) → SameTargets (loadedOf m l number b .machine)
-  unfolding loadedOf loadRegs
+  load-targets :
+      busyIn (m .activity) ≡ true
+      → NoneIn (loadRegister m l number b)
+      → (loadRegister m l number b .machine .regs .tr ≡ m .regs .tr) × (loadRegister m l number b .machine .regs .sr ≡ m .regs .sr)
+  unfolding loadRegs
   load-targets busy =
-      by-cond (λ (q : Loaded). NoneIn q → SameTargets (q .machine))
-      (eqb (loadRefusal (validOf m) (busyIn (m .activity)) number b) 0)
-      (λ taken.
-      by-cond (λ (q : Loaded). NoneIn q → SameTargets (q .machine)) (eqb number 0)
-      (λ zero quiet.
-      let same = commanded-bus m l b (decodedOf b) (rw zero at quiet) in
-      rw same (refl, refl))
-      (λ other quiet.
+      load-by (λ (n : Machine). (n .regs .tr ≡ m .regs .tr) × (n .regs .sr ≡ m .regs .sr)) (refl, refl)
+      (λ other taken.
       let free = unguarded (validOf m) number b (rw busy at taken) in
-      simp (free .0, free .1) (refl, refl)))
-      (λ refused quiet. (refl, refl))
+      simp (free .0, free .1) (refl, refl))
 
-  load-dr : b < 256 → NoneIn (loadedOf m l number b) → m .regs .dr < 256 → loadedOf m l number b .machine .regs .dr < 256
-  unfolding loadedOf loadRegs
-  load-dr byte =
-      by-cond (λ (q : Loaded). NoneIn q → m .regs .dr < 256 → q .machine .regs .dr < 256)
-      (eqb (loadRefusal (validOf m) (busyIn (m .activity)) number b) 0)
-      (λ taken.
-      by-cond (λ (q : Loaded). NoneIn q → m .regs .dr < 256 → q .machine .regs .dr < 256) (eqb number 0)
-      (λ zero quiet low.
-      let same = commanded-bus m l b (decodedOf b) (rw zero at quiet) in
-      rw same low)
-      (λ other quiet low.
+  load-dr : b < 256 → m .regs .dr < 256 → NoneIn (loadRegister m l number b) → loadRegister m l number b .machine .regs .dr < 256
+  unfolding loadRegs
+  load-dr byte low =
+      load-by (λ (n : Machine). n .regs .dr < 256) low
+      (λ other taken.
       by-cond (λ (r : Regs). r .dr < 256) (eqb number 1)
       (λ tr. low)
-      (λ e. by-cond (λ (r : Regs). r .dr < 256) (eqb number 2) (λ sr. low) (λ dr. byte))))
-      (λ refused quiet low. low)
+      (λ e. by-cond (λ (r : Regs). r .dr < 256) (eqb number 2) (λ sr. low) (λ dr. byte)))
 
 -- ---- a read
 
-read-bus : (m : Machine) (l : Lines) (number : ℕ) → readOf m l number .machine ≡ busFrom m (readOf m l number .machine)
-unfolding readOf
+read-bus : (m : Machine) (l : Lines) (number : ℕ) → readRegister m l number .machine ≡ busFrom m (readRegister m l number .machine)
+unfolding readRegister
 read-bus m l number =
     by-cond (λ (q : Read). q .machine ≡ busFrom m (q .machine)) (eqb (readRefusal (validOf m) number) 0)
     (λ taken. refl)
     (λ refused. refl)
 
-pub read-regs : (m : Machine) (l : Lines) (number : ℕ) → readOf m l number .machine .regs ≡ m .regs
-unfolding readOf
+pub read-regs : (m : Machine) (l : Lines) (number : ℕ) → readRegister m l number .machine .regs ≡ m .regs
+unfolding readRegister
 read-regs m l number =
     by-cond (λ (q : Read). q .machine .regs ≡ m .regs) (eqb (readRefusal (validOf m) number) 0)
     (λ taken. refl)
@@ -138,7 +133,7 @@ call-targets m (reads l number) quiet busy = simp (read-regs m l number) (refl, 
 
 call-dr : (m : Machine) (c : Call) → commands m c ≡ false → m .regs .dr < 256 → calledOf m c .regs .dr < 256
 unfolding calledOf commands
-call-dr m (loads l number b byte) quiet low = load-dr m l number b byte quiet low
+call-dr m (loads l number b byte) quiet low = load-dr m l number b byte low quiet
 call-dr m (reads l number) quiet low = rw (read-regs m l number) low
 
 call-valid : (m : Machine) (c : Call) → Valid m → Valid (calledOf m c)
@@ -149,7 +144,7 @@ call-valid m (reads l number) v = read-valid m l number v
 -- ---- any number of calls
 
 -- registers and wires are all that they change
-pub calls-bus : (m : Machine) (cs : List Call) → Quiet m cs → calledAll m cs ≡ busFrom m (calledAll m cs)
+pub calls-bus : (m : Machine) (cs : List Call) → NoneAccepted m cs → calledAll m cs ≡ busFrom m (calledAll m cs)
 unfolding calledAll
 calls-bus m [] none = refl
 calls-bus m (c ∷ cs) (more quiet rest) =
@@ -162,19 +157,19 @@ calls-valid m [] v = v
 calls-valid m (c ∷ cs) v = calls-valid (calledOf m c) cs (call-valid m c v)
 
 -- DR holds a byte
-pub calls-dr : (m : Machine) (cs : List Call) → Quiet m cs → m .regs .dr < 256 → calledAll m cs .regs .dr < 256
+pub calls-dr : (m : Machine) (cs : List Call) → NoneAccepted m cs → m .regs .dr < 256 → calledAll m cs .regs .dr < 256
 unfolding calledAll
 calls-dr m [] none low = low
 calls-dr m (c ∷ cs) (more quiet rest) low = calls-dr (calledOf m c) cs rest (call-dr m c quiet low)
 
 -- the command goes on, or none does
-pub calls-activity : (m : Machine) (cs : List Call) → Quiet m cs → calledAll m cs .activity ≡ m .activity
+pub calls-activity : (m : Machine) (cs : List Call) → NoneAccepted m cs → calledAll m cs .activity ≡ m .activity
 calls-activity m cs quiet = ap (λ (n : Machine). n .activity) (calls-bus m cs quiet)
 
 -- while Busy TR and SR stay
 pub calls-targets :
     (m : Machine) (cs : List Call)
-    → Quiet m cs
+    → NoneAccepted m cs
     → busyIn (m .activity) ≡ true
     → (calledAll m cs .regs .tr ≡ m .regs .tr) × (calledAll m cs .regs .sr ≡ m .regs .sr)
 unfolding calledAll

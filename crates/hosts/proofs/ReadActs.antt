@@ -1,14 +1,14 @@
--- What a Read Sector does with a cell behind its ID: in the window, and in the data field. Assumes nothing.
+-- What a Read Sector does with a cell after its ID: in the window, and in the data field. Assumes nothing.
 use mathlib.Core.Path.{_≡_}
-use mathlib.Core.Bool.{Bool, false, not}
+use mathlib.Core.Bool.{Bool, not}
 use Prim.Native.Nat.{ℕ, suc, _+_, _-_, _≤_, _<_}
 use native.Mathlib.Omega.{arith}
 use lib.Dec.{eqb}
 use borrow.Author.Tests.{lt-ltb, le-ltb, le-leb, lt-leb, eq-eqb, ne-eqb}
 use Rattle.crc.specs.Crc.{crcByte}
-use Rattle.codes.specs.Bits.{bitOf, bitM}
+use Rattle.command.specs.Bits.{isMultiple}
 use Rattle.scan.specs.Marks.{byteOf, markCrc}
-use Rattle.scan.specs.DataMarks.{markByte, isDeleted, soughtOf, windowOf}
+use Rattle.scan.specs.DataMarks.{markByte, isDeleted, dataMarkStep, windowOf}
 use Rattle.scan.specs.declared.DataMark.{DataMark}
 use Rattle.scan.specs.declared.Sought.{Sought}
 use Rattle.scan.specs.declared.Sought.the-variants.{On, Met}
@@ -17,9 +17,9 @@ use Rattle.activity.specs.declared.Activity.{Activity}
 use Rattle.activity.specs.declared.Activity.the-variants.{Idle, Window, Data}
 use Rattle.activity.specs.declared.Deed.{Deed}
 use Rattle.activity.specs.declared.Deed.the-variants.{Nothing, Deliver, NotFound, Record}
-use Rattle.search.specs.Search.{againOf}
-use Rattle.reading.specs.Reading.{missedOf, metOf, awaitedOf, readOf}
-use Rattle.act.specs.Turns.{settledOf, enteredOf, reactedOf, actOf}
+use Rattle.search.specs.Search.{afterRecord}
+use Rattle.reading.specs.Reading.{windowMissed, windowStep, windowCell, dataCell}
+use Rattle.act.specs.Turns.{begunActivity, activityAct, actOf}
 use Rattle.hosts.proofs.Views.{View, Outside, cellUnder, seenIn, actIn}
 
 module _ (w : View) (o : Outside) where
@@ -31,20 +31,20 @@ module _ (w : View) (o : Outside) where
 
   module _ (left passed run : ℕ) (is : w .activity ≡ Window left passed run) where
     abbrev sought : Sought
-    sought = soughtOf (w .mfm) (cellUnder w) run
+    sought = dataMarkStep (w .mfm) (cellUnder w) run
 
     pub window-on : (next : ℕ)
         → sought ≡ On next
         → suc passed < windowOf (w .mfm)
         → Does (Window left (suc passed) next) Nothing
-    unfolding actOf settledOf enteredOf reactedOf awaitedOf metOf missedOf
+    unfolding actOf begunActivity activityAct windowCell windowStep windowMissed
     window-on next e within =
         let one : passed + 1 ≡ suc passed = omega arith in
         simp (is, e, one, lt-ltb (suc passed) (windowOf (w .mfm)) within)
 
     -- "No data mark by the window's last cell: bit 4, end there."
     pub window-lost : (next : ℕ) → sought ≡ On next → suc passed ≡ windowOf (w .mfm) → Does Idle NotFound
-    unfolding actOf settledOf enteredOf reactedOf awaitedOf metOf missedOf
+    unfolding actOf begunActivity activityAct windowCell windowStep windowMissed
     window-lost next e last =
         let one : passed + 1 ≡ suc passed = omega arith in
         simp (is, e, one, le-ltb (suc passed) (windowOf (w .mfm)) (omega arith))
@@ -52,7 +52,7 @@ module _ (w : View) (o : Outside) where
     pub window-met : (mark : DataMark)
         → sought ≡ Met mark
         → Does (Data left (markCrc (w .mfm) (markByte mark)) (isDeleted mark)) Nothing
-    unfolding actOf settledOf enteredOf reactedOf awaitedOf metOf
+    unfolding actOf begunActivity activityAct windowCell windowStep
     window-met mark e = simp (is, e)
 
   -- ---- the data field: so many of its cells are left, the two of the CRC among them
@@ -63,20 +63,20 @@ module _ (w : View) (o : Outside) where
 
     -- "Each data byte, flags ignored, goes to DR"
     pub data-on : (rest : ℕ) → left ≡ suc rest → 2 ≤ rest → Does (Data rest (crcByte crc byte) deleted) (Deliver byte)
-    unfolding actOf settledOf enteredOf reactedOf readOf
+    unfolding actOf begunActivity activityAct dataCell
     data-on rest e more =
         let one : left - 1 ≡ rest = omega arith in
         simp (is, le-leb 3 left (omega arith), one)
 
     -- the first CRC cell
     pub crc-on : left ≡ 2 → Does (Data 1 (crcByte crc byte) deleted) Nothing
-    unfolding actOf settledOf enteredOf reactedOf readOf
+    unfolding actOf begunActivity activityAct dataCell
     crc-on e = simp (is, lt-leb 3 left (omega arith), eq-eqb left 2 e)
 
-    -- "At the second CRC cell: bit 3 if bad, bit 5 on if F8, else off, Busy off, INTRQ."
+    -- "At the second CRC cell: bit 3 if bad, bit 5 on if F8, else off, Busy off, INTRQ. With m .. the search starts afresh"
     pub crc-end :
-        bitOf (w .order .byte) bitM ≡ false
-        → left ≡ 1
-        → Does Idle (Record deleted (not (eqb (crcByte crc byte) 0)) false)
-    unfolding actOf settledOf enteredOf reactedOf readOf againOf
-    crc-end single e = simp (is, lt-leb 3 left (omega arith), ne-eqb left 2 (omega arith), single)
+        left ≡ 1
+        → Does (afterRecord (isMultiple (w .order .byte)))
+        (Record deleted (not (eqb (crcByte crc byte) 0)) (isMultiple (w .order .byte)))
+    unfolding actOf begunActivity activityAct dataCell
+    crc-end e = simp (is, lt-leb 3 left (omega arith), ne-eqb left 2 (omega arith))

@@ -7,16 +7,17 @@ use native.Mathlib.Omega.{arith}
 use Rattle.activity.specs.Limits.{busyIn}
 use Rattle.activity.specs.declared.Deed.{Deed}
 use Rattle.activity.specs.declared.Deed.the-variants.{Nothing, Deliver, Record}
-use Rattle.chip.specs.declared.Flags.{Flags}
-use Rattle.chip.specs.declared.Lines.{Lines}
-use Rattle.chip.specs.Status.{bitFor, type2Of, statusFrom}
-use Rattle.deeds.specs.Deeds.{flagsAfter}
+use Rattle.registers.specs.declared.Flags.{Flags}
+use Rattle.registers.specs.declared.Lines.{Lines}
+use Rattle.registers.specs.Status.{bitFor, typeBits, statusFrom}
+use Rattle.effects.proofs.Apart.{flagsAfter}
 use Rattle.wd.specs.declared.Machine.{Machine}
 use Rattle.wd.specs.Reads.{statusOf}
 use Rattle.hosts.specs.Bytes.{hands}
 use Rattle.hosts.proofs.Silent.{Silent, nothing, matched, lost}
+use Rattle.effects.specs.Effects.{effectOf, delivered, addressNamed, recordOver, recordRead, cellTaken, stepped, halted}
 
--- behind its ID
+-- after its ID
 pub data Moves : Deed → Type 0 where
   waits : Moves Nothing
   delivers : {b : ℕ} → Moves (Deliver b)
@@ -28,18 +29,12 @@ silent-hands deed nothing = refl
 silent-hands deed (matched bad) = refl
 silent-hands deed lost = refl
 
--- a good field leaves bits 3 and 4
+-- a good field leaves bit 3
 pub crc-kept : (f : Flags) (drq : Bool) (deed : Deed) → Moves deed → flagsAfter f drq deed .crc ≡ f .crc
-unfolding flagsAfter
+unfolding flagsAfter effectOf delivered addressNamed recordOver recordRead cellTaken stepped halted
 crc-kept f drq deed waits = refl
 crc-kept f drq deed delivers = refl
 crc-kept f drq deed records = or-false (f .crc)
-
-pub missing-kept : (f : Flags) (drq : Bool) (deed : Deed) → Moves deed → flagsAfter f drq deed .missing ≡ f .missing
-unfolding flagsAfter
-missing-kept f drq deed waits = refl
-missing-kept f drq deed delivers = refl
-missing-kept f drq deed records = refl
 
 -- Lost Data comes with a byte that finds DRQ on
 or-true-of : (a b : Bool) → (a || b) ≡ true → (a ≡ true) ⊎ (b ≡ true)
@@ -51,7 +46,7 @@ pub lost-by :
     → Silent deed ⊎ Moves deed
     → flagsAfter f drq deed .lost ≡ true
     → (f .lost ≡ true) ⊎ ((hands deed ≡ true) × (drq ≡ true))
-unfolding flagsAfter hands
+unfolding flagsAfter hands effectOf delivered addressNamed recordOver recordRead cellTaken stepped halted
 lost-by f drq deed (inl nothing) e = inl e
 lost-by f drq deed (inl (matched bad)) e = inl e
 lost-by f drq deed (inl lost) e = inl e
@@ -74,6 +69,6 @@ pub status-is :
     → m .flags .deleted ≡ deleted
     → statusOf m l .byte
     ≡ bitFor (not (l .ready)) 0x80 + bitFor deleted 0x20 + bitFor (m .flags .lost) 0x04 + bitFor (m .wires .drq) 0x02
-unfolding statusOf statusFrom type2Of bitFor
+unfolding statusOf statusFrom typeBits bitFor
 status-is m l deleted busy type protected missing crc mark =
     simp (type, busy, protected, missing, crc, mark) (omega arith)

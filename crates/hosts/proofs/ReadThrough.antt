@@ -1,78 +1,84 @@
--- A single Read Sector that has found its ID and meets a data field with a good CRC, from its acceptance to its end: the
--- bytes that it hands over, each as its cell passes, and its status bits. Assumes nothing.
-use mathlib.Core.Path.{_≡_, refl, sym, ap, _∙_, subst}
-use mathlib.Core.Bool.{Bool, true, false, not}
-use mathlib.Core.Logic.{_⊎_, inl, inr}
-use Prim.Native.Nat.{ℕ, zero, suc, _+_, _-_, _%_, _≤_, _<_}
-use native.Mathlib.Nat.{add-zero, add-suc}
+-- A single Read Sector that has found its ID and meets a data field with a good CRC, from its acceptance to its end: what each
+-- byte time does, and the bytes that it hands over, each as its cell passes. Assumes nothing.
+use mathlib.Core.Path.{_≡_, sym, ap, ap₂, _∙_, subst}
+use mathlib.Core.Bool.{Bool, false, not}
+use Prim.Native.Nat.{ℕ, suc, _+_, _-_, _%_, _≤_, _<_}
 use native.Mathlib.Decide.{decLt, ℕ-discrete}
 use native.Mathlib.Omega.{arith}
+use lib.Dec.{eqb}
 use lib.ListN.{length}
-use Rattle.common.proofs.Cases.{never}
-use Rattle.scan.specs.Marks.{byteOf}
+use Rattle.scan.specs.Marks.{byteOf, markCrc}
 use Rattle.scan.specs.declared.DataMark.{DataMark}
-use Rattle.scan.specs.DataMarks.{isDeleted}
+use Rattle.scan.specs.DataMarks.{markByte, isDeleted}
 use Rattle.scan.specs.Streams.{idWidth}
-use Rattle.codes.specs.Bits.{bitOf, bitM}
-use Rattle.codes.specs.Sizes.{sizeOf}
-use Rattle.order.specs.Orders.{jobOf, orderOf}
-use Rattle.order.specs.declared.Command.the-variants.{ReadSector}
-use Rattle.activity.specs.declared.Activity.the-variants.{Window}
+use Rattle.command.specs.Bits.{isMultiple}
+use Rattle.command.specs.Orders.{orderOf}
+use Rattle.command.specs.declared.Command.the-variants.{ReadSector}
 use Rattle.activity.specs.declared.Deed.{Deed}
 use Rattle.activity.specs.declared.Deed.the-variants.{Nothing, Deliver, Record}
-use Rattle.search.specs.Search.{servedOf}
-use Rattle.chip.specs.declared.Ring.{Ring}
-use Rattle.chip.specs.declared.Flags.{Flags}
-use Rattle.chip.specs.declared.Regs.{Regs}
-use Rattle.chip.specs.declared.Lines.{Lines}
-use Rattle.chip.specs.Status.{bitFor}
-use Rattle.accepting.specs.Accepting.{heldBy, writes}
-use Rattle.deeds.specs.Deeds.{regsAfter, flagsAfter}
-use Rattle.wd.specs.Reads.{statusOf}
-use Rattle.growth.specs.ByteTimes.{turnsOn}
-use Rattle.hosts.specs.Hosts.{Host, Desk, servedAt, at, Alone}
+use Rattle.registers.specs.declared.Ring.{Ring}
+use Rattle.registers.specs.declared.Regs.{Regs}
+use Rattle.effects.proofs.Apart.{regsAfter}
+use Rattle.reachable.specs.ByteTimes.{turnsOn}
+use Rattle.hosts.specs.Hosts.{Host, Desk, servedAt, at, AloneUntil, EndsAt}
 use Rattle.hosts.specs.Scenes.{Scene, loaded}
-use Rattle.hosts.specs.Bytes.{deedAt, hands, handed, LateAt}
-use Rattle.hosts.proofs.Views.{View, viewOf}
-use Rattle.hosts.proofs.Phases.{stands}
-use Rattle.hosts.proofs.Searching.{Fits, fits-on}
-use Rattle.hosts.proofs.Course.{ends-done, actAt, next-regs, next-flags, type-later, protected-later}
-use Rattle.hosts.proofs.Accepted.{groundOf}
-use Rattle.hosts.proofs.Stages as stages
-use Rattle.hosts.proofs.Stages.{deskAt, deed-done}
-use Rattle.hosts.proofs.Found.{Found}
-use Rattle.hosts.proofs.Commanded.{Goes, given-flags, courseOf, starts}
+use Rattle.hosts.specs.Bytes.{deedAt, hands, handed}
+use Rattle.hosts.proofs.DataFields.{sumAfter, sum-same}
+use Rattle.hosts.proofs.Views.{View, Calm}
+use Rattle.hosts.proofs.ByteTimes.{next-regs}
+use Rattle.hosts.proofs.Courses.{AnyRow, ends-once, ended-calm}
+use Rattle.hosts.proofs.Passing.{streamFrom}
+use Rattle.hosts.proofs.Silent.{Silent}
+use Rattle.hosts.proofs.Records.{byteAfter, registerAfter, Marked, data-ring, hands-deed, first-deed, last-deed}
+use Rattle.hosts.proofs.Windows.{FirstMarkIn, cellsAfter, Opened, awaits-deed}
+use Rattle.hosts.proofs.Searching.{reads-two}
+use Rattle.hosts.proofs.Working.{Given, OverAt, Working, ended-working, courseOf, Heads, heads-by, beginning}
+use Rattle.hosts.proofs.Found.{Found, foundTime, foundPlace, foundSize, found-place, found-silent}
+use Rattle.hosts.proofs.ReadEnds.{found-opens, found-marked, marked-over}
 use Rattle.hosts.proofs.Collected.{listed, listed-same, Stretch, collects}
-use Rattle.hosts.proofs.BehindIds.{BehindId, behind-place}
-use Rattle.hosts.proofs.ReadDeeds.{Moves, waits, delivers, records, silent-hands, crc-kept, missing-kept, lost-by}
-use Rattle.hosts.proofs.ReadDeeds.{status-is}
-use Rattle.hosts.proofs.ReadStages.{FieldIn, cellsIn, Begun, hands-ring, read-over, awaits-deed, hands-deed}
-use Rattle.hosts.proofs.ReadStages.{first-deed, second-deed}
+use Rattle.hosts.proofs.ReadDeeds.{Moves, waits, delivers, records, silent-hands}
+use Rattle.effects.specs.Effects.{effectOf, delivered, addressNamed, recordOver, recordRead, cellTaken, stepped, halted}
 
--- ---- behind the ID
+-- A data field of so many bytes in the cells after an ID: its mark is the first of the window, the mark's byte is the cell
+-- `place` there, counted from 1, and its CRC is good.
+pub record FieldIn (mfm : Bool) (cells : ℕ → ℕ) (size : ℕ) (mark : DataMark) (place : ℕ) : Type 0 where
+  pub some : 0 < place
+  pub first : (u : ℕ) → suc u ≡ place → FirstMarkIn mfm cells mark u
+  -- "a field is good when the register is 0 after its own CRC"
+  pub closed : sumAfter (markCrc mfm (markByte mark)) (λ i. byteOf (cells (place + i))) (size + 2) ≡ 0
 
-module _ {s : Scene} {n : ℕ} (goes : Goes s n ReadSector) (found : Found (courseOf goes) (groundOf s ReadSector)) where
-  -- the bytes of its data field, and the view as it begins to look for the data mark
-  abbrev pub size : ℕ
-  size = sizeOf (found .id .length)
+-- ---- the command
 
-  abbrev pub there : View
-  there = stands (groundOf s ReadSector) (found .t) false (Window (sizeOf (found .id .length) + 2) 0 0)
+-- a single Read Sector that ends by itself in byte time n
+pub record EndedRead (s : Scene) (n : ℕ) : Type 0 where
+  pub given : Given s ReadSector
+  pub alone : AloneUntil (s .host) (loaded s) n
+  pub ends : EndsAt (s .host) (loaded s) n
+  pub single : isMultiple (s .byte) ≡ false
 
-  pub there-fits : Fits there
-  there-fits = fits-on (groundOf s ReadSector) (starts goes .fits) (found .t) false (Window (size + 2) 0 0)
+module _ {s : Scene} {n : ℕ} (r : EndedRead s n) where
+  abbrev pub working : Working AnyRow s ReadSector
+  working = ended-working (r .given) n (r .alone) (r .ends)
 
-  pub behind-there : BehindId there (found .p)
-  behind-there = record { inside = found .on-ring .inside; head = found .head }
+  abbrev pub heads : Heads working
+  heads = heads-by working n (r .ends)
 
--- a single Read Sector that has found its ID, and the data field that it meets behind it
+  -- the ID that it has found
+  abbrev pub FoundId : Type 0
+  FoundId = Found working reads-two heads
+
+  -- the cells after that
+  abbrev pub cellsOn : FoundId → ℕ → ℕ
+  cellsOn f = cellsAfter (beginning working heads) (suc (f .q))
+
+-- and the data field that it meets then
 pub record Meets (s : Scene) (n : ℕ) : Type 0 where
-  pub goes : Goes s n ReadSector
-  pub found : Found (courseOf goes) (groundOf s ReadSector)
-  pub single : bitOf (s .byte) bitM ≡ false
+  pub reads : EndedRead s n
+  pub found : FoundId reads
   pub mark : DataMark
   pub place : ℕ
-  pub field : FieldIn (s .machine .mfm) (cellsIn (there goes found)) (size goes found) mark place
+  pub field :
+      FieldIn (s .machine .mfm) (cellsOn reads found) (foundSize found) mark place
 
 module _ {s : Scene} {n : ℕ} (r : Meets s n) where
   abbrev h : Host
@@ -81,248 +87,180 @@ module _ {s : Scene} {n : ℕ} (r : Meets s n) where
   abbrev d : Desk
   d = loaded s
 
-  abbrev alone : Alone h d
-  alone = r .goes .alone
+  abbrev w : Working AnyRow s ReadSector
+  w = working (r .reads)
 
-  abbrev course : stages.Command
-  course = courseOf (r .goes)
+  abbrev view : View
+  view = beginning w (heads (r .reads))
 
-  abbrev opened : View
-  opened = there (r .goes) (r .found)
+  abbrev begun : ℕ
+  begun = heads (r .reads) .begun
 
   -- the bytes of the field
-  abbrev long : ℕ
-  long = size (r .goes) (r .found)
+  abbrev pub size : ℕ
+  size = foundSize (r .found)
 
   abbrev pub byte : ℕ → ℕ
-  byte i = byteOf (cellsIn (there (r .goes) (r .found)) (r .place + i))
+  byte i = byteOf (cellsOn (r .reads) (r .found) (r .place + i))
 
-  -- the byte times behind the ID's last cell, and behind the mark's byte
-  abbrev start : ℕ
-  start = r .found .t
+  -- the byte times up to the ID's last cell, and up to the mark's byte
+  abbrev pub start : ℕ
+  start = foundTime (r .found)
 
   abbrev pub from : ℕ
-  from = r .found .t + r .place
+  from = foundTime (r .found) + r .place
 
-  begun : Begun course start opened long
-  unfolding turnsOn servedOf orderOf jobOf
-  begun =
-      record {
-        start = record {
-          inside = rw (add-zero start) (r .found .inside);
-          view = ap (λ (i : ℕ). viewOf (deskAt course i)) (add-zero start) ∙ r .found .view;
-        };
-        single = r .single;
-      }
+  -- ---- its record
 
-  over : start + (r .place + long + 2) ≡ n
-  over = read-over course start opened long begun (r .mark) (r .place) (r .field)
+  -- the mark's byte is cell u after the ID, and the data field begins m byte times after the search
+  abbrev u : ℕ
+  u = r .place - 1
 
-  pub within : from + long ≤ n
+  abbrev m : ℕ
+  m = suc (r .found .q) + suc u
+
+  u-is : suc u ≡ r .place
+  u-is = omega (arith, r .field .some)
+
+  abbrev first : FirstMarkIn (s .machine .mfm) (cellsOn (r .reads) (r .found)) (r .mark) u
+  first = r .field .first u u-is
+
+  abbrev crc : ℕ
+  crc = markCrc (s .machine .mfm) (markByte (r .mark))
+
+  opened : Opened (courseOf w) begun view (suc (r .found .q)) size
+  opened = found-opens (r .found)
+
+  met : Marked (courseOf w) begun view m size crc (isDeleted (r .mark))
+  met = found-marked (r .found) u (r .mark) first
+
+  ended : OverAt s (begun + (m + (size + 2))) false
+  ended = marked-over (r .found) u (r .mark) first (r .reads .single)
+
+  same-byte : (i : ℕ) → byteAfter view m i ≡ byte i
+  same-byte i = ap (λ (k : ℕ). byteOf (streamFrom view k)) (omega (arith, u-is))
+
+  -- the register after the second CRC cell
+  closes : registerAfter view m crc (suc (suc size)) ≡ 0
+  closes =
+      let e : suc (suc size) ≡ size + 2 = omega arith in
+      ap (registerAfter view m crc) e
+      ∙ sum-same crc (byteAfter view m) byte (size + 2) (λ i l. same-byte i)
+      ∙ r .field .closed
+
+  -- it ends with that cell
+  pub over : start + (r .place + size + 2) ≡ n
+  over =
+      let e : start + (r .place + size + 2) ≡ begun + (m + (size + 2)) = omega (arith, u-is) in
+      e ∙ ends-once h d _ n (ended .ends) (r .reads .ends)
+
+  -- without Record Not Found
+  pub no-missing : at h d n .machine .flags .missing ≡ false
+  no-missing =
+      let e : begun + (m + (size + 2)) ≡ n = omega (arith, over, u-is) in
+      rw e at (ended .told)
+
+  pub within : from + size ≤ n
   within = omega (arith, over)
-
-  abbrev doing : ℕ → Deed
-  doing i = actAt h d alone i .deed
 
   -- ---- what each byte time does
 
-  waiting : (i : ℕ) → start ≤ i → i < from → doing i ≡ Nothing
-  waiting i l m =
-      let e : start + (i - start) ≡ i = omega arith in
-      ap doing (sym e)
-      ∙ awaits-deed course start opened long begun (r .mark) (r .place) (r .field) (i - start) (omega arith)
+  abbrev doing : ℕ → Deed
+  doing i = deedAt h d i
 
-  -- the data bytes, one behind another
-  delivered : (i : ℕ) → i < long → doing (from + i) ≡ Deliver (byte i)
-  delivered i l =
-      let e : start + (r .place + i) ≡ from + i = omega arith in
-      ap doing (sym e) ∙ hands-deed course start opened long begun (r .mark) (r .place) (r .field) i l
+  waiting : (i : ℕ) → start ≤ i → i < from → doing i ≡ Nothing
+  waiting i l g =
+      let e : begun + (suc (r .found .q) + (i - start)) ≡ i = omega arith in
+      ap doing (sym e) ∙ awaits-deed opened u (r .mark) first (i - start) (omega (arith, u-is))
+
+  -- the data bytes, one after another
+  byte-delivered : (i : ℕ) → i < size → doing (from + i) ≡ Deliver (byte i)
+  byte-delivered i l =
+      let e : begun + (m + i) ≡ from + i = omega (arith, u-is) in
+      ap doing (sym e) ∙ hands-deed met i l ∙ ap Deliver (same-byte i)
 
   -- the two CRC cells
-  summing : (i : ℕ) → i ≡ from + long → doing i ≡ Nothing
+  summing : (i : ℕ) → i ≡ from + size → doing i ≡ Nothing
   summing i is =
-      let e : start + (r .place + long) ≡ i = omega arith in
-      ap doing (sym e) ∙ first-deed course start opened long begun (r .mark) (r .place) (r .field)
+      let e : begun + (m + size) ≡ i = omega (arith, u-is) in
+      ap doing (sym e) ∙ first-deed met
 
-  recorded : (i : ℕ) → i ≡ suc (from + long) → doing i ≡ Record (isDeleted (r .mark)) false false
+  pub recorded : (i : ℕ) → i ≡ suc (from + size) → doing i ≡ Record (isDeleted (r .mark)) false false
+  unfolding orderOf
   recorded i is =
-      let e : start + suc (r .place + long) ≡ i = omega arith in
-      ap doing (sym e) ∙ second-deed course start opened long begun (r .mark) (r .place) (r .field)
+      let e : begun + (m + suc size) ≡ i = omega (arith, u-is) in
+      ap doing (sym e)
+      ∙ last-deed met
+      ∙ ap₂ (λ (register : ℕ) (multiple : Bool). Record (isDeleted (r .mark)) (not (eqb register 0)) multiple) closes
+      (r .reads .single)
 
-  moves : (i : ℕ) → start ≤ i → i < n → Moves (doing i)
-  moves i l m = by (decLt i from) (decLt i (from + long)) (ℕ-discrete i (from + long))
+  pub moves : (i : ℕ) → start ≤ i → i < n → Moves (doing i)
+  moves i l g = by (decLt i from) (decLt i (from + size)) (ℕ-discrete i (from + size))
     where
-      is : (deed : Deed) → Moves deed → doing i ≡ deed → Moves (doing i)
-      is deed move e = subst Moves (sym e) move
+      is : {deed : Deed} → Moves deed → doing i ≡ deed → Moves (doing i)
+      is move e = subst Moves (sym e) move
 
-      by : Dec (i < from) → Dec (i < from + long) → Dec (i ≡ from + long) → Moves (doing i)
-      by (yes x) y z = is Nothing waits (waiting i l x)
+      by : Dec (i < from) → Dec (i < from + size) → Dec (i ≡ from + size) → Moves (doing i)
+      by (yes x) y z = is waits (waiting i l x)
       by (no x) (yes y) z =
           let e : from + (i - from) ≡ i = omega arith in
-          is (Deliver (byte (i - from))) delivers (ap doing (sym e) ∙ delivered (i - from) (omega arith))
-      by (no x) (no y) (yes z) = is Nothing waits (summing i z)
-      by (no x) (no y) (no z) =
-          is (Record (isDeleted (r .mark)) false false) records (recorded i (omega (arith, over)))
+          is delivers (ap doing (sym e) ∙ byte-delivered (i - from) (omega arith))
+      by (no x) (no y) (yes z) = is waits (summing i z)
+      by (no x) (no y) (no z) = is records (recorded i (omega (arith, over)))
 
-  abbrev flagsAt : ℕ → Flags
-  flagsAt i = at h d i .machine .flags
+  pub silent : (i : ℕ) → i < start → Silent (doing i)
+  silent = found-silent (r .found)
 
-  steps :
-      (i : ℕ)
-      → i < n
-      → flagsAt (suc i) ≡ flagsAfter (flagsAt i) (servedAt h i (at h d i) .machine .wires .drq) (doing i)
-  steps i l = next-flags h d alone i (ends-done h d alone n (r .goes .ends) i l)
+  pub calm : (i : ℕ) → i < n → Calm h d i
+  calm = ended-calm h d n (r .reads .alone) (r .reads .ends)
 
   -- ---- the bytes that it hands over
 
-  hands-is : (i : ℕ) (deed : Deed) → i < n → doing i ≡ deed → hands (deedAt h d i) ≡ hands deed
-  hands-is i deed l e = ap hands (deed-done course i l ∙ e)
-
   -- in the byte times of the data cells, and in no other
-  pub stretch : Stretch (λ i. hands (deedAt h d i)) from long n
+  pub stretch : Stretch (λ i. hands (deedAt h d i)) from size n
   unfolding hands
   stretch =
       record {
         within = within;
         before = λ i l. early i l (decLt i start);
-        during = λ i l. hands-is (from + i) (Deliver _) (omega (arith, over)) (delivered i l);
-        behind = λ i l m. late i l m (ℕ-discrete i (from + long));
+        during = λ i l. ap hands (byte-delivered i l);
+        behind = λ i l g. late i l g (ℕ-discrete i (from + size));
       }
     where
-      early : (i : ℕ) → i < from → Dec (i < start) → hands (deedAt h d i) ≡ false
-      early i l (yes m) =
-          hands-is i (doing i) (omega (arith, over)) refl ∙ silent-hands (doing i) (r .found .silent i m)
-      early i l (no m) = hands-is i Nothing (omega (arith, over)) (waiting i (omega arith) l)
+      early : (i : ℕ) → i < from → Dec (i < start) → hands (doing i) ≡ false
+      early i l (yes g) = silent-hands (doing i) (silent i g)
+      early i l (no g) = ap hands (waiting i (omega arith) l)
 
-      late : (i : ℕ) → from + long ≤ i → i < n → Dec (i ≡ from + long) → hands (deedAt h d i) ≡ false
-      late i l m (yes e) = hands-is i Nothing m (summing i e)
-      late i l m (no e) = hands-is i (Record _ false false) m (recorded i (omega (arith, over)))
+      late : (i : ℕ) → from + size ≤ i → i < n → Dec (i ≡ from + size) → hands (doing i) ≡ false
+      late i l g (yes e) = ap hands (summing i e)
+      late i l g (no e) = ap hands (recorded i (omega (arith, over)))
 
-  -- DR behind the byte time of each
-  pub handed-byte : (i : ℕ) → i < long → at h d (suc (from + i)) .machine .regs .dr ≡ byte i
-  unfolding regsAfter
+  -- DR after the byte time of each
+  pub handed-byte : (i : ℕ) → i < size → at h d (suc (from + i)) .machine .regs .dr ≡ byte i
+  unfolding regsAfter effectOf delivered addressNamed recordOver recordRead cellTaken stepped halted
   handed-byte i l =
       ap (λ (x : Regs). x .dr)
-      (next-regs h d alone (from + i)
-      (ends-done h d alone n (r .goes .ends) (from + i) (omega (arith, over)))
-      ∙ ap (regsAfter (servedAt h (from + i) (at h d (from + i)) .machine .regs)) (delivered i l))
+      (next-regs h d (from + i) (calm (from + i) (omega (arith, over)))
+      ∙ ap (regsAfter (servedAt h (from + i) (at h d (from + i)) .machine .regs)) (byte-delivered i l))
 
-  pub handed-list : handed h d n ≡ listed byte long
+  pub handed-list : handed h d n ≡ listed byte size
   handed-list =
-      collects (λ i. hands (deedAt h d i)) (λ i. at h d (suc i) .machine .regs .dr) from long n stretch
-      ∙ listed-same _ byte long handed-byte
+      collects (λ i. hands (deedAt h d i)) (λ i. at h d (suc i) .machine .regs .dr) from size n stretch
+      ∙ listed-same _ byte size handed-byte
 
   -- the cell that passes then
   pub handed-place :
       (i : ℕ)
-      → i < long
+      → i < size
       → at h d (from + i) .machine .ring .position
-      ≡ (r .found .p + idWidth (s .machine .mfm) + (r .place + i)) % length (s .row)
+      ≡ (foundPlace (r .found)
+      + idWidth (s .machine .mfm)
+      + (r .place + i))
+      % length (s .row)
   handed-place i l =
-      let e : from + i ≡ start + (r .place + i) = omega arith in
+      let e : from + i ≡ begun + (m + i) = omega (arith, u-is) in
+      let on : m + i ≡ suc (r .found .q) + (r .place + i) = omega (arith, u-is) in
       ap (λ (k : ℕ). at h d k .machine .ring .position) e
-      ∙ ap (λ (x : Ring). x .position)
-      (hands-ring course start opened long begun (r .mark) (r .place) (r .field) i (omega arith))
-      ∙ behind-place opened (there-fits (r .goes) (r .found)) (r .found .p) (behind-there (r .goes) (r .found))
-      (r .place + i)
-
-  -- ---- its status bits
-
-  begun-flags :
-      flagsAt 0
-      ≡ record {
-        type1 = false;
-        protected = heldBy ReadSector (s .lines);
-        deleted = false;
-        missing = false;
-        crc = false;
-        lost = false;
-      }
-  unfolding at
-  begun-flags = given-flags s ReadSector (r .goes .is) (r .goes .works) (r .goes .accepted)
-
-  -- from the ID on, bits 3 and 4 stay off
-  clean : (j : ℕ) → start + j ≤ n → (flagsAt (start + j) .crc ≡ false) × (flagsAt (start + j) .missing ≡ false)
-  clean zero l =
-      let e : start + 0 ≡ start = omega arith in
-      rw e (r .found .good, ap (λ (v : View). v .missing) (r .found .view))
-  clean (suc j) l =
-      let before = clean j (omega arith) in
-      let move = moves (start + j) (omega arith) (omega arith) in
-      let step = steps (start + j) (omega arith) in
-      rw (add-suc start j) (
-        ap (λ (f : Flags). f .crc) step ∙ crc-kept _ _ _ move ∙ before .0,
-        ap (λ (f : Flags). f .missing) step ∙ missing-kept _ _ _ move ∙ before .1,
-      )
-
-  ends-clean : (flagsAt n .crc ≡ false) × (flagsAt n .missing ≡ false)
-  ends-clean = rw over at (clean (r .place + long + 2) (omega (arith, over)))
-
-  -- neither a CRC error nor Record Not Found
-  pub no-crc : at h d n .machine .flags .crc ≡ false
-  no-crc = ends-clean .0
-
-  pub no-missing : at h d n .machine .flags .missing ≡ false
-  no-missing = ends-clean .1
-
-  -- Lost Data has a cause
-  lost-cause : (i : ℕ) → i ≤ n → flagsAt i .lost ≡ true → (k : ℕ) × (k < i) × LateAt h d k
-  lost-cause zero l e =
-      let z : true ≡ false = sym e ∙ ap (λ (f : Flags). f .lost) begun-flags in
-      never (cc)
-  lost-cause (suc i) l e = by (lost-cause i (omega arith)) (decLt i start)
-    where
-      drq : Bool
-      drq = servedAt h i (at h d i) .machine .wires .drq
-
-      cause :
-          (flagsAt i .lost ≡ true → (k : ℕ) × (k < i) × LateAt h d k)
-          → (flagsAt i .lost ≡ true) ⊎ ((hands (doing i) ≡ true) × (drq ≡ true))
-          → (k : ℕ) × (k < suc i) × LateAt h d k
-      cause before (inl on) = let (k, m, late) = before on in (k, omega arith, late)
-      cause before (inr (hand, on)) =
-          (i, omega arith, record { hand = hands-is i (doing i) (omega arith) refl ∙ hand; still = on })
-
-      on : flagsAfter (flagsAt i) drq (doing i) .lost ≡ true
-      on = ap (λ (f : Flags). f .lost) (sym (steps i (omega arith))) ∙ e
-
-      by : (flagsAt i .lost ≡ true → (k : ℕ) × (k < i) × LateAt h d k)
-          → Dec (i < start)
-          → (k : ℕ) × (k < suc i) × LateAt h d k
-      by before (yes m) = cause before (lost-by (flagsAt i) drq (doing i) (inl (r .found .silent i m)) on)
-      by before (no m) = cause before (lost-by (flagsAt i) drq (doing i) (inr (moves i (omega arith) (omega arith))) on)
-
-  pub late-only : at h d n .machine .flags .lost ≡ true → (k : ℕ) × (k < n) × LateAt h d k
-  late-only = lost-cause n (omega arith)
-
-  -- "bit 5 on if F8, else off"
-  pub told-mark : at h d n .machine .flags .deleted ≡ isDeleted (r .mark)
-  unfolding flagsAfter
-  told-mark =
-      let e : suc (suc (from + long)) ≡ n = omega (arith, over) in
-      ap (λ (i : ℕ). flagsAt i .deleted) (sym e)
-      ∙ ap (λ (f : Flags). f .deleted)
-      (steps (suc (from + long)) (omega (arith, over)) ∙ ap (flagsAfter _ _) (recorded (suc (from + long)) refl))
-
-  pub type-two : at h d n .machine .flags .type1 ≡ false
-  unfolding at
-  type-two =
-      type-later h d alone n (r .goes .ends) n (omega arith) ∙ ap (λ (f : Flags). f .type1) begun-flags
-
-  pub unprotected : at h d n .machine .flags .protected ≡ false
-  unfolding heldBy writes at
-  unprotected =
-      protected-later h d alone n (r .goes .ends) n (omega arith)
-      ∙ ap (λ (f : Flags). f .protected) begun-flags
-
-  -- the status byte, under any lines
-  pub told :
-      (l : Lines)
-      → statusOf (at h d n .machine) l .byte
-      ≡ bitFor (not (l .ready)) 0x80
-      + bitFor (isDeleted (r .mark)) 0x20
-      + bitFor (at h d n .machine .flags .lost) 0x04
-      + bitFor (at h d n .machine .wires .drq) 0x02
-  told l =
-      status-is (at h d n .machine) l (isDeleted (r .mark)) (r .goes .ends .over) type-two unprotected no-missing
-      no-crc told-mark
+      ∙ ap (λ (x : Ring). x .position) (data-ring met i (omega arith))
+      ∙ ap (λ (k : ℕ). turnsOn k (view .ring) .position) on
+      ∙ found-place (r .found) (r .place + i)

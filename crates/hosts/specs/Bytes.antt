@@ -5,17 +5,16 @@ use mathlib.Core.List.{List, [], _∷_, _++_}
 use Prim.Native.Nat.{ℕ, zero, suc}
 use lib.Dec.{eqb}
 use Rattle.activity.specs.declared.Deed.{Deed}
-use Rattle.activity.specs.declared.Deed.the-variants.{Nothing, Deliver, Named, Matched, NotFound, Record, Written, Ask, Late}
-use Rattle.activity.specs.declared.Deed.the-variants.{Take, Step, Halt}
+use Rattle.activity.specs.declared.Deed.the-variants.{Nothing, Deliver, Named, Matched, NotFound, Record, Written, Ask, Late, Take, Step, Halt}
 use Rattle.wd.specs.Turns.{doesOf}
-use Rattle.wd.specs.Rows.{under, passedOf}
+use Rattle.wd.specs.Rows.{under, byteTime}
 use Rattle.hosts.specs.Hosts.{Host, Desk, servedAt, at}
 
 -- what byte time n does: nothing where it is refused
 unfoldable pub deedAt : Host → Desk → ℕ → Deed
 deedAt h d n =
     let found = servedAt h n (at h d n) in
-    cond (eqb (passedOf (found .machine) (h .lines n) (found .row) .number) 0)
+    cond (eqb (byteTime (found .machine) (h .lines n) (found .row) .number) 0)
     (doesOf (found .machine) (h .lines n) (under (found .machine) (found .row)) .deed)
     Nothing
 
@@ -58,7 +57,7 @@ collected counts byte (suc n) = collected counts byte n ++ cond (counts n) (byte
 abbrev pub taken : Host → Desk → ℕ → List ℕ
 taken h d = collected (λ k. takes (deedAt h d k)) (λ k. servedAt h k (at h d k) .machine .regs .dr)
 
--- the bytes that it handed over in n byte times: DR behind each that hands one over
+-- the bytes that it handed over in n byte times: DR after each that hands one over
 abbrev pub handed : Host → Desk → ℕ → List ℕ
 handed h d = collected (λ k. hands (deedAt h d k)) (λ k. at h d (suc k) .machine .regs .dr)
 

@@ -5,11 +5,11 @@ use mathlib.Core.List.{List, [], _∷_}
 use Prim.Native.Nat.{ℕ, zero, suc, _<_}
 use lib.Dec.{eqb}
 use Rattle.activity.specs.Limits.{busyIn}
-use Rattle.chip.specs.declared.Lines.{Lines}
+use Rattle.registers.specs.declared.Lines.{Lines}
 use Rattle.wd.specs.declared.Machine.{Machine}
-use Rattle.wd.specs.Reads.{readOf}
-use Rattle.wd.specs.Loads.{loadedOf}
-use Rattle.wd.specs.Rows.{passedOf, rowOf}
+use Rattle.wd.specs.Reads.{readRegister}
+use Rattle.wd.specs.Loads.{loadRegister}
+use Rattle.wd.specs.Rows.{byteTime, byteTimeRow}
 
 -- a register call, with its drive lines; a byte is below 256
 pub data Call : Type 0 where
@@ -18,12 +18,12 @@ pub data Call : Type 0 where
 
 -- the machine that it hands back, refused or not
 unfoldable pub calledOf : Machine → Call → Machine
-calledOf m (loads l number b byte) = loadedOf m l number b .machine
-calledOf m (reads l number) = readOf m l number .machine
+calledOf m (loads l number b byte) = loadRegister m l number b .machine
+calledOf m (reads l number) = readRegister m l number .machine
 
 -- it is a command, and accepted
 unfoldable pub commands : Machine → Call → Bool
-commands m (loads l number b byte) = eqb number 0 && eqb (loadedOf m l number b .number) 0
+commands m (loads l number b byte) = eqb number 0 && eqb (loadRegister m l number b .number) 0
 commands m (reads l number) = false
 
 -- calls one after another
@@ -32,12 +32,12 @@ calledAll m [] = m
 calledAll m (c ∷ cs) = calledAll (calledOf m c) cs
 
 -- "no other command accepted": not one of them
-pub data NoCommand : Machine → List Call → Type 0 where
-  none : {m : Machine} → NoCommand m []
+pub data NoneAccepted : Machine → List Call → Type 0 where
+  none : {m : Machine} → NoneAccepted m []
   more : {m : Machine} {c : Call} {cs : List Call}
       → commands m c ≡ false
-      → NoCommand (calledOf m c) cs
-      → NoCommand m (c ∷ cs)
+      → NoneAccepted (calledOf m c) cs
+      → NoneAccepted m (c ∷ cs)
 
 -- What a host does from some moment on: its register calls before each byte time, the byte times numbered from 0, and the
 -- lines of each byte time. One that does something for a while only is one that goes on with no calls.
@@ -50,12 +50,12 @@ pub record Desk : Type 0 where
   pub machine : Machine
   pub row : List ℕ
 
--- behind the calls before byte time n, and behind that byte time
+-- after the calls before byte time n, and after that byte time
 unfoldable pub servedAt : Host → ℕ → Desk → Desk
 servedAt h n d = record { machine = calledAll (d .machine) (h .calls n); row = d .row }
 
 unfoldable pub passesUnder : Lines → Desk → Desk
-passesUnder l d = record { machine = passedOf (d .machine) l (d .row) .machine; row = rowOf (d .machine) l (d .row) }
+passesUnder l d = record { machine = byteTime (d .machine) l (d .row) .machine; row = byteTimeRow (d .machine) l (d .row) }
 
 -- as n byte times have passed, each lent the row as the one before it left it
 unfoldable pub at : Host → Desk → ℕ → Desk
@@ -63,13 +63,13 @@ at h d zero = d
 at h d (suc n) = passesUnder (h .lines n) (servedAt h n (at h d n))
 
 -- None of the host's calls is an accepted command, however long it goes on: what `Ends` asks of it. Demands 2 and 3 ask this
--- only until their commands have ended (`AloneUntil`, `Undisturbed`); their proofs cut the host off there, and then it is so.
+-- only until their commands have ended (`AloneUntil`, `Undisturbed`).
 abbrev pub Alone : Host → Desk → Type 0
-Alone h d = (n : ℕ) → NoCommand (at h d n .machine) (h .calls n)
+Alone h d = (n : ℕ) → NoneAccepted (at h d n .machine) (h .calls n)
 
 -- none before the first n byte times is: demand 2
 abbrev pub AloneUntil : Host → Desk → ℕ → Type 0
-AloneUntil h d n = (k : ℕ) → k < n → NoCommand (at h d k .machine) (h .calls k)
+AloneUntil h d n = (k : ℕ) → k < n → NoneAccepted (at h d k .machine) (h .calls k)
 
 -- Busy before byte time n, numbered from 0: what demand 3 asks of a host it asks while the command is under way; when it is
 -- over the host does as it likes
@@ -78,9 +78,9 @@ BusyAt h d n = busyIn (at h d n .machine .activity) ≡ true
 
 -- none is while Busy: demand 3
 abbrev pub Undisturbed : Host → Desk → Type 0
-Undisturbed h d = (n : ℕ) → BusyAt h d n → NoCommand (at h d n .machine) (h .calls n)
+Undisturbed h d = (n : ℕ) → BusyAt h d n → NoneAccepted (at h d n .machine) (h .calls n)
 
--- It ends in byte time n, counted from 1 behind the acceptance: Busy up to there, and no longer. Nothing but the end of the
+-- It ends in byte time n, counted from 1 after the acceptance: Busy up to there, and no longer. Nothing but the end of the
 -- command and an accepted Force Interrupt turns Busy off, so it "ends by itself" where no other command is accepted on the
 -- way; that is said beside it wherever it is asked or promised.
 pub record EndsAt (h : Host) (d : Desk) (n : ℕ) : Type 0 where

@@ -4,11 +4,12 @@ use mathlib.Core.Bool.{true, cond}
 use mathlib.Core.List.{List}
 use Prim.Native.Nat.{ℕ}
 use Rattle.scan.specs.declared.Id.{Id}
-use Rattle.codes.specs.Bits.{bitOf, bitS, bitE, bitC}
-use Rattle.codes.specs.Times.{settleTimeOf}
-use Rattle.chip.specs.declared.Lines.{Lines}
+use Rattle.command.specs.Bits.{settlesFirst, sideAsked}
+use Rattle.command.specs.declared.SideAsked.the-variants.{Only}
+use Rattle.command.specs.Times.{settleTimeOf}
+use Rattle.registers.specs.declared.Lines.{Lines}
 use Rattle.wd.specs.declared.Machine.{Machine}
-use Rattle.wd.specs.Loads.{loadedOf}
+use Rattle.wd.specs.Loads.{loadRegister}
 use Rattle.hosts.specs.Hosts.{Host, Desk}
 
 -- A command byte loaded into a machine under some lines, the track that is lent from then on, and what the host does then:
@@ -20,17 +21,17 @@ pub record Scene : Type 0 where
   pub row : List ℕ
   pub host : Host
 
--- behind the load
+-- after the load
 abbrev pub loaded : Scene → Desk
-loaded s = record { machine = loadedOf (s .machine) (s .lines) 0 (s .byte) .machine; row = s .row }
+loaded s = record { machine = loadRegister (s .machine) (s .lines) 0 (s .byte) .machine; row = s .row }
 
 -- "settle for 469 (FM) or 938 (MFM) byte times if E is 1"
 abbrev pub settling : Scene → ℕ
-settling s = cond (bitOf (s .byte) bitE) (settleTimeOf (s .machine .mfm)) 0
+settling s = cond (settlesFirst (s .byte)) (settleTimeOf (s .machine .mfm)) 0
 
 -- "An ID matches if its track is TR and, for Type II, its sector is SR and, with C, its side is S"; "with a good CRC"
 pub record Suits (s : Scene) (id : Id) : Type 0 where
   pub track : id .track ≡ s .machine .regs .tr
   pub sector : id .sector ≡ s .machine .regs .sr
-  pub side : bitOf (s .byte) bitC ≡ true → id .side ≡ cond (bitOf (s .byte) bitS) 1 0
+  pub side : (only : ℕ) → sideAsked (s .byte) ≡ Only only → id .side ≡ only
   pub good : id .good ≡ true

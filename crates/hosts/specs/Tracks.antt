@@ -5,7 +5,7 @@ use Prim.Native.Nat.{ℕ, zero, suc, _+_, _%_}
 use lib.Dec.{eqb}
 use Rattle.fields.specs.Rings.{cellsOf}
 
--- "the position goes up by one, and from L - 1 to 0": the position n byte times behind `from`, on a ring of so many cells
+-- "the position goes up by one, and from L - 1 to 0": the position n byte times after `from`, on a ring of so many cells
 abbrev pub positionAt : ℕ → ℕ → ℕ → ℕ
 positionAt size from n = (from + n) % size
 

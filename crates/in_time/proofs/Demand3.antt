@@ -3,33 +3,32 @@
 use mathlib.Core.Path.{_≡_, refl, sym, _∙_}
 use mathlib.Core.Bool.{Bool, true, false, true≢false}
 use mathlib.Core.Logic.{_⊎_, inl, inr, _↔_}
-use Prim.Native.Nat.{ℕ, suc, _+_, _-_, _*_, _≤_, _<_}
+use Prim.Native.Nat.{ℕ, suc, _+_, _*_, _≤_, _<_}
 use native.Mathlib.Decide.{decLt}
 use native.Mathlib.Omega.{arith}
 use lib.ListN.{length}
 use Rattle.common.proofs.Cases.{never}
 use Rattle.scan.specs.Marks.{leadOf}
-use Rattle.scan.specs.Streams.{idWidth}
-use Rattle.scan.specs.declared.Id.{Id}
-use Rattle.codes.specs.Sizes.{sizeOf}
+use Rattle.scan.specs.Streams.{idWidth, soughtAt}
 use Rattle.scan.specs.DataMarks.{windowOf}
-use Rattle.order.specs.declared.Command.the-variants.{ReadSector}
-use Rattle.wd.proofs.Valid.{valid-ring}
-use Rattle.growth.proofs.StatusBits.{status-four}
-use Rattle.hosts.specs.Hosts.{Host, Desk, at, EndsAt}
+use Rattle.command.specs.declared.Command.the-variants.{ReadSector}
+use Rattle.reachable.proofs.Valid.{load-valid}
+use Rattle.reachable.proofs.StatusBits.{status-four}
+use Rattle.hosts.specs.Hosts.{at}
 use Rattle.hosts.specs.Scenes.{Scene, loaded, settling}
-use Rattle.hosts.proofs.DataFields.{size-most}
-use Rattle.hosts.proofs.RingLaws.{fifth-most, fifth-least, pulses-four, fifth-pulse}
-use Rattle.hosts.proofs.Searching.{hitAt, Fits}
-use Rattle.hosts.proofs.Firsts.{First, Found, first}
-use Rattle.hosts.proofs.Accepted.{accepted-valid}
+use Rattle.hosts.proofs.Pulses.{pulse-most, pulse-there, pulses-before}
+use Rattle.hosts.proofs.Firsts.{FirstOrNone, first}
 use Rattle.hosts.proofs.Intrq.{ends-told}
-use Rattle.hosts.proofs.Suits.{suits-back}
-use Rattle.in_time.specs.Demand3.{Asked, startOf, OnRing, FirstWhole, MarkInWindow, FifthPulse, Demand3}
-use Rattle.in_time.proofs.Serving.{which-mark, metAt}
-use Rattle.in_time.proofs.Hits.{settledIn, openedIn, hit-id, id-hit, hit-ring, ring-hit, met-mark, mark-met}
-use Rattle.in_time.proofs.ReadEnds.{Ends, MatchedAt, settled-fits, fifthIn, ends-none, ends-unmarked, ends-marked}
-use Rattle.in_time.proofs.ReadEnds.{over}
+use Rattle.hosts.proofs.Views.{stays-valid}
+use Rattle.hosts.proofs.Searching.{reads-two}
+use Rattle.hosts.proofs.RingIds.{hit-id, id-hit, hit-ring}
+use Rattle.hosts.proofs.Windows.{isMet, which-mark}
+use Rattle.hosts.proofs.Working.{given-valid, beginning-inside, OverAt}
+use Rattle.hosts.proofs.Found.{Found, Lost, searched, fifthOf, lost-over, lost-none, found-soon, found-size}
+use Rattle.hosts.proofs.ReadEnds.{unmarked-over, marked-over}
+use Rattle.in_time.specs.Demand3.{InTimePremises, startOf, OnRing, FirstWhole, MarkInWindow, FifthPulse, Demand3}
+use Rattle.in_time.proofs.Hits.{afterId, ring-id, id-ring, met-mark, mark-met}
+use Rattle.in_time.proofs.Underway.{given, working, heads}
 
 -- ---- the numbers
 
@@ -41,7 +40,7 @@ widths false = omega arith
 
 -- ---- how it ends
 
--- what an ID, its window and the longest data field with its CRC take behind the settling
+-- what an ID, its window and the longest data field with its CRC take after the settling
 abbrev longest : Scene → ℕ
 longest s = length (s .row) + idWidth (s .machine .mfm) + windowOf (s .machine .mfm) + 1026
 
@@ -53,100 +52,80 @@ data Verdict (s : Scene) (n : ℕ) : Bool → Type 0 where
 
 -- it does, and why
 Ended : Scene → Type 0
-Ended s = (n : ℕ) × (missing : Bool) × Ends s n missing × Verdict s n missing
+Ended s = (n : ℕ) × (missing : Bool) × OverAt s n missing × Verdict s n missing
 
-module _ (s : Scene) (asked : Asked s) where
-  fits : Fits (settledIn s)
-  fits = settled-fits s asked
-
+module _ (s : Scene) (asked : InTimePremises s) where
   inside : startOf s < length (s .row)
-  inside = omega (arith, fits .whole, fits .inside)
-
-  long : 2048 ≤ length (s .row)
-  long =
-      let valid = accepted-valid (s .machine) (s .lines) (s .byte) (asked .accepted) in
-      omega (arith, asked .whole, valid-ring (s .machine) valid .least)
+  inside = beginning-inside (working s asked) (heads s asked)
 
   -- ---- an ID that suits
 
-  module _ (n : ℕ) (soon : suc n < length (s .row) + idWidth (s .machine .mfm)) (hit : First (hitAt (settledIn s)) n) where
+  module _ (f : Found (working s asked) reads-two (heads s asked)) where
     -- it is the first to pass whole
-    first-whole : FirstWhole s n
+    first-whole : FirstWhole s (f .q)
     first-whole =
-        let (id, heard, ends, suits) = hit-id s n (hit .passes) in
+        let (id, heard, ends, suits) = hit-id s ReadSector (settling s) (f .q) (f .first .passes) in
         record {
           id = id;
           ends = ends;
           suits = suits;
-          first = λ k l other e suits. true≢false (sym (id-hit s k other e suits) ∙ hit .none k l);
+          first = λ k l other e suits.
+              true≢false (sym (id-hit s ReadSector (settling s) k other e suits) ∙ f .first .none k l);
         }
 
-    -- it passes before the fifth pulse
-    early : suc n ≤ fifthIn s asked
-    early = omega (arith, long, fifth-least (length (s .row)) (startOf s) inside, widths (s .machine .mfm) .0)
+    soon : suc (f .q) < length (s .row) + idWidth (s .machine .mfm)
+    soon = found-soon f
 
     found : Ended s
     unfolding Ended
-    found =
-        let (id, heard, ends, suits) = hit-id s n (hit .passes) in
-        by id (record { none = hit .none; heard = heard; suits = suits-back s ReadSector id suits })
-        (first (metAt (openedIn s n id)) (windowOf (s .machine .mfm)))
+    found = by (first (λ u. isMet (soughtAt (s .machine .mfm) (afterId s (f .q)) u)) (windowOf (s .machine .mfm)))
       where
-        by : (id : Id) → MatchedAt s n id → Found (metAt (openedIn s n id)) (windowOf (s .machine .mfm)) → Ended s
-        by id matched (inl (u, l, met)) =
+        by : FirstOrNone (λ u. isMet (soughtAt (s .machine .mfm) (afterId s (f .q)) u)) (windowOf (s .machine .mfm))
+            → Ended s
+        by (inl (u, l, met)) =
             let (mark, e) = which-mark _ (met .passes) in (
-              settling s + suc n + suc u + (sizeOf (id .length) + 2),
+              _,
               false,
-              ends-marked s asked n id early matched u mark l (met .none) e,
-              served n first-whole (met-mark s fits n id u l (met .passes)) (omega (arith, size-most (id .length))),
+              marked-over f u mark
+                  (record { near = l; none = met .none; met = e })
+                  (asked .single),
+              served (f .q) first-whole (met-mark s (f .q) u l (met .passes)) (omega (arith, soon, found-size f)),
             )
-        by id matched (inr unmet) = (
-          settling s + suc n + windowOf (s .machine .mfm),
+        by (inr unmet) = (
+          _,
           true,
-          ends-unmarked s asked n id early matched unmet,
-          no-mark n first-whole
+          unmarked-over f unmet,
+          no-mark (f .q) first-whole
               (λ marked.
-              let (u, l, met) = mark-met s fits n id marked in
+              let (u, l, met) = mark-met s (f .q) marked in
               true≢false (sym met ∙ unmet u l))
-              (omega arith),
+              (omega (arith, soon)),
         )
 
   -- ---- none
 
-  module _ (unhit : (k : ℕ) → suc k < length (s .row) + idWidth (s .machine .mfm) → hitAt (settledIn s) k ≡ false) where
-    nowhere : OnRing s → ⊥
-    nowhere ring =
-        let (k, l, hit) = ring-hit s inside ring in
-        true≢false (sym hit ∙ unhit k l)
-
-    never-hit : (k : ℕ) → hitAt (settledIn s) k ≡ false
-    never-hit k = by (hitAt (settledIn s) k) refl
-      where
-        by : (b : Bool) → hitAt (settledIn s) k ≡ b → b ≡ false
-        by true e = absurd (nowhere (hit-ring s (omega (arith, long)) k e))
-        by false e = refl
-
-    lost : Ended s
-    unfolding Ended
-    lost = (
-      settling s + suc (fifthIn s asked),
-      true,
-      ends-none s asked (λ k l. never-hit k),
-      no-id nowhere (fifthIn s asked)
-          (record {
-            four = omega (arith, pulses-four (length (s .row)) (startOf s) inside);
-            pulse = fifth-pulse (length (s .row)) (startOf s) inside;
-          })
-          refl
-          (fifth-most (length (s .row)) (startOf s) inside),
-    )
+  lost : Lost (working s asked) reads-two (heads s asked) → Ended s
+  unfolding Ended
+  lost f = (
+    _,
+    true,
+    lost-over f,
+    no-id (λ ring. lost-none f (ring .cell) (ring-id ring))
+        (fifthOf (working s asked) reads-two (heads s asked))
+        (record {
+          four = pulses-before 4 (length (s .row)) (startOf s) inside;
+          pulse = pulse-there 4 (length (s .row)) (startOf s) inside;
+        })
+        refl
+        (pulse-most 4 (length (s .row)) (startOf s) inside),
+  )
 
   ended : Ended s
-  ended = by (first (hitAt (settledIn s)) (length (s .row) + idWidth (s .machine .mfm) - 1))
+  ended = by (searched (working s asked) reads-two (heads s asked))
     where
-      by : Found (hitAt (settledIn s)) (length (s .row) + idWidth (s .machine .mfm) - 1) → Ended s
-      by (inl (n, l, hit)) = found n (omega arith) hit
-      by (inr unhit) = lost (λ k l. unhit k (omega arith))
+      by : Found (working s asked) reads-two (heads s asked) ⊎ Lost (working s asked) reads-two (heads s asked) → Ended s
+      by (inl f) = found f
+      by (inr f) = lost f
 
   -- ---- in the demand's words
 
@@ -161,7 +140,10 @@ module _ (s : Scene) (asked : Asked s) where
 
   -- it stands on the ring
   whole-ring : (k : ℕ) → FirstWhole s k → OnRing s
-  whole-ring k f = hit-ring s (omega (arith, long)) k (id-hit s k (f .id) (f .ends) (f .suits))
+  whole-ring k f =
+      id-ring
+      (hit-ring s ReadSector (settling s) (omega (arith, inside)) k
+      (id-hit s ReadSector (settling s) k (f .id) (f .ends) (f .suits)) .on-ring)
 
   -- nothing to serve: no ID, or no data mark in the first one's window
   abbrev Unserved : Type 0
@@ -194,20 +176,20 @@ module _ (s : Scene) (asked : Asked s) where
 -- of L cells (none above 511) lent each byte time, ends with Record Not Found exactly when no ID on the whole ring matches
 -- with a good CRC, or the first such ID to pass whole after settling has no data mark in its window. Counted after settling
 -- it ends within L + 1,078 byte times where such an ID exists, and at the fifth index pulse, within 5L, where none does."
-pub in-time : (s : Scene) → Asked s → Demand3 s
+pub in-time : (s : Scene) → InTimePremises s → Demand3 s
 unfolding Ended
 in-time s asked =
-    let (n, missing, end, verdict) = ended s asked in
-    let is = over s asked n missing end in
+    let (n, missing, is, verdict) = ended s asked in
+    let valid = load-valid (s .machine) (s .lines) 0 (s .byte) (given-valid (given s asked)) in
     let told = exactly-when s asked verdict in (
       n,
       is .ends,
       record {
-        told =
+        raised =
             ends-told s ReadSector (asked .reads) (λ e. never (cc)) (asked .accepted) n
             (λ k l. asked .alone k (is .ends .busy k l)) (is .ends);
         exactly = λ l.
-            let bit = status-four (at (s .host) (loaded s) n .machine) l (is .valid) ∙ is .told in
+            let bit = status-four (at (s .host) (loaded s) n .machine) l (stays-valid (s .host) (loaded s) valid n) ∙ is .told in
             (λ e. told .0 (sym bit ∙ e), λ unserved. bit ∙ told .1 unserved);
         found = λ ring. omega (arith, soon-enough s asked verdict ring, widths (s .machine .mfm) .0);
         lost = λ none.
@@ -216,12 +198,3 @@ in-time s asked =
         row = is .row;
       },
     )
-
--- it ends once: these are the byte time and the machine that the demand speaks of
-pub ends-once : (h : Host) (d : Desk) (n k : ℕ) → EndsAt h d n → EndsAt h d k → n ≡ k
-ends-once h d n k x y = by (decLt n k) (decLt k n)
-  where
-    by : Dec (n < k) → Dec (k < n) → n ≡ k
-    by (yes l) other = absurd (true≢false (sym (y .busy n l) ∙ x .over))
-    by (no l) (yes m) = absurd (true≢false (sym (x .busy k m) ∙ y .over))
-    by (no l) (no m) = omega arith

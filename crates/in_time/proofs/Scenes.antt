@@ -5,19 +5,20 @@ use mathlib.Core.Bool.{Bool}
 use mathlib.Core.List.{List, [], _∷_}
 use Prim.Native.Nat.{ℕ, _≤_, _<_}
 use lib.ListN.{length, getD}
-use Rattle.codes.specs.Bits.{bitOf}
-use Rattle.order.specs.Commands.{decodedOf}
+use Rattle.command.specs.Commands.{decodedOf}
+use Rattle.common.specs.Bits.{bitOf}
 use Rattle.activity.specs.Limits.{busyIn, countsWithin}
 use Rattle.scan.specs.Rows.{lengthWithin}
-use Rattle.chip.specs.Rings.{ringWithin}
-use Rattle.chip.specs.Registers.{guarded, loadRefusal}
+use Rattle.registers.specs.Rings.{ringWithin}
+use Rattle.registers.specs.Registers.{guarded, loadRefusal}
 use Rattle.wd.specs.declared.Machine.{Machine}
-use Rattle.wd.specs.Machines.{validOf, freshOf, poweredOf}
-use Rattle.wd.specs.Loads.{commandedOf, loadedOf}
-use Rattle.growth.proofs.Samples.{on}
+use Rattle.wd.specs.Machines.{validOf, freshMachine, powerOn}
+use Rattle.wd.specs.Loads.{commandAnswer, loadRegister}
+use Rattle.reachable.proofs.Samples.{sampleLength, on}
 use Rattle.hosts.specs.Hosts.{reads, commands, none, more, Host}
 use Rattle.hosts.specs.Scenes.{Scene}
-use Rattle.in_time.specs.Demand3.{Asked}
+use Rattle.in_time.specs.Demand3.{InTimePremises}
+use Rattle.command.specs.Bits.{settlesFirst, isMultiple, verifiesTrack, sideOf, sideAsked, markWritten}
 
 abbrev pub reader : Host
 reader = record { calls = λ n. reads on 0 ∷ reads on 3 ∷ []; lines = λ n. on }
@@ -27,11 +28,11 @@ sceneOf m row = record { machine = m; lines = on; byte = 0x80; row = row; host =
 
 pub scene-asked :
     (m : Machine) (row : List ℕ)
-    → loadedOf m on 0 0x80 .number ≡ 0
+    → loadRegister m on 0 0x80 .number ≡ 0
     → length row ≡ m .ring .length
     → ((i : ℕ) → i < length row → getD row i 0 ≤ 511)
-    → Asked (sceneOf m row)
-unfolding decodedOf bitOf commands
+    → InTimePremises (sceneOf m row)
+unfolding decodedOf bitOf settlesFirst isMultiple verifiesTrack sideOf sideAsked markWritten commands
 scene-asked m row accepted whole low =
     record {
       reads = refl;
@@ -46,9 +47,9 @@ scene-asked m row accepted whole low =
 
 -- power-on, either density
 abbrev pub fresh : Bool → Machine
-fresh mfm = poweredOf 2048 mfm .machine
+fresh mfm = powerOn sampleLength mfm .machine
 
-pub fresh-accepts : (mfm : Bool) → loadedOf (fresh mfm) on 0 0x80 .number ≡ 0
-unfolding loadedOf loadRefusal guarded validOf ringWithin lengthWithin countsWithin busyIn poweredOf freshOf
-    commandedOf decodedOf
+pub fresh-accepts : (mfm : Bool) → loadRegister (fresh mfm) on 0 0x80 .number ≡ 0
+unfolding loadRegister loadRefusal guarded validOf ringWithin lengthWithin countsWithin busyIn powerOn freshMachine
+    commandAnswer decodedOf
 fresh-accepts mfm = refl

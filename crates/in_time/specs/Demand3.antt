@@ -1,4 +1,4 @@
--- Demand 3, "In time": what it asks, of what, and what it promises. The command itself, its host, how long it settles and
+-- Demand 3, "In time": its premises and its conclusion. The command itself, its host, how long it settles and
 -- which IDs match are of the crate `hosts`: `specs/Scenes.antt` and `specs/Hosts.antt`. Assumes nothing.
 use mathlib.Core.Path.{_≡_}
 use mathlib.Core.Bool.{Bool, true, false, cond}
@@ -8,29 +8,30 @@ use lib.ListN.{length, getD}
 use Rattle.scan.specs.Marks.{leadOf}
 use Rattle.scan.specs.Streams.{MarkAt, IdAt, idFrom, IdEnds}
 use Rattle.scan.specs.declared.Id.{Id}
-use Rattle.codes.specs.Bits.{bitOf, bitM}
-use Rattle.order.specs.Commands.{decodedOf}
-use Rattle.order.specs.declared.Command.the-variants.{ReadSector}
-use Rattle.order.specs.declared.Decoded.the-variants.{Taken}
-use Rattle.chip.specs.declared.Lines.{Lines}
+use Rattle.command.specs.Bits.{isMultiple}
+use Rattle.command.specs.Commands.{decodedOf}
+use Rattle.common.specs.Bits.{bitOf}
+use Rattle.command.specs.declared.Command.the-variants.{ReadSector}
+use Rattle.command.specs.declared.Decoded.the-variants.{Taken}
+use Rattle.registers.specs.declared.Lines.{Lines}
 use Rattle.fields.specs.Rings.{cellsOf}
 use Rattle.wd.specs.declared.Machine.{Machine}
-use Rattle.wd.specs.Reads.{readOf}
-use Rattle.wd.specs.Loads.{loadedOf}
-use Rattle.growth.specs.ByteTimes.{turnsOn}
+use Rattle.wd.specs.Reads.{readRegister}
+use Rattle.wd.specs.Loads.{loadRegister}
+use Rattle.reachable.specs.ByteTimes.{turnsOn}
 use Rattle.hosts.specs.Hosts.{BusyAt, Undisturbed, at, EndsAt}
 use Rattle.hosts.specs.Scenes.{Scene, loaded, settling, Suits}
 use Rattle.hosts.specs.Tracks.{positionAt, passing, pulsesIn}
 
--- ---- what is asked
+-- ---- premises
 
 -- of a command, its host and its track
-pub record Asked (s : Scene) : Type 0 where
+pub record InTimePremises (s : Scene) : Type 0 where
   -- "a single Read Sector": without m
   pub reads : decodedOf (s .byte) ≡ Taken ReadSector
-  pub single : bitOf (s .byte) bitM ≡ false
+  pub single : isMultiple (s .byte) ≡ false
   -- "accepted with the drive ready"
-  pub accepted : loadedOf (s .machine) (s .lines) 0 (s .byte) .number ≡ 0
+  pub accepted : loadRegister (s .machine) (s .lines) 0 (s .byte) .number ≡ 0
   pub ready : s .lines .ready ≡ true
   -- "HLT on throughout"
   pub hlt : (n : ℕ) → BusyAt (s .host) (loaded s) n → s .host .lines n .hlt ≡ true
@@ -40,7 +41,7 @@ pub record Asked (s : Scene) : Type 0 where
   pub whole : length (s .row) ≡ s .machine .ring .length
   pub low : (i : ℕ) → i < length (s .row) → getD (s .row) i 0 ≤ 511
 
--- ---- what it is asked of
+-- ---- the track that passes
 
 -- "after settling": where the head is then, and the stream of cells that pass from there on
 abbrev pub startOf : Scene → ℕ
@@ -49,7 +50,7 @@ startOf s = turnsOn (settling s) (s .machine .ring) .position
 abbrev pub streamOf : Scene → ℕ → ℕ
 streamOf s = passing (s .row) (startOf s)
 
--- "an ID on the whole ring matches with a good CRC": it stands from some cell on, over the ring's end or not
+-- an ID "on the whole ring matches with a good CRC": it stands from some cell on, over the ring's end or not
 pub record OnRing (s : Scene) : Type 0 where
   pub cell : ℕ
   pub inside : cell < length (s .row)
@@ -67,7 +68,7 @@ pub record FirstWhole (s : Scene) (n : ℕ) : Type 0 where
 unfoldable pub windowCells : Bool → ℕ
 windowCells mfm = cond mfm 43 30
 
--- ".. in MFM its three A1s too": an ID whose last cell is n "has a data mark in its window", FB or F8, from cell a on
+-- ".. in MFM its three A1s too": an ID whose last cell is n has a data mark in its window, FB or F8, from cell a on
 pub record MarkInWindow (s : Scene) (n : ℕ) : Type 0 where
   pub a : ℕ
   pub byte : ℕ
@@ -83,13 +84,13 @@ pub record FifthPulse (s : Scene) (n : ℕ) : Type 0 where
 
 -- "Record Not Found": bit 4 of the status byte that a read hands back under these lines
 abbrev pub notFound : Machine → Lines → Bool
-notFound m l = bitOf (readOf m l 0 .byte) 4
+notFound m l = bitOf (readRegister m l 0 .byte) 4
 
--- ---- what it promises of a command that ends in byte time n, counted from 1 behind the load
+-- ---- conclusion, of a command that ends in byte time n, counted from 1 after the load
 
 pub record InTime (s : Scene) (n : ℕ) : Type 0 where
   -- "When it ends by itself, Busy goes off and INTRQ on in that byte time."
-  pub told : at (s .host) (loaded s) n .machine .wires .intrq ≡ true
+  pub raised : at (s .host) (loaded s) n .machine .wires .intrq ≡ true
   -- "ends with Record Not Found exactly when no ID on the whole ring matches with a good CRC, or the first such ID to pass
   -- whole after settling has no data mark in its window"
   pub exactly :

@@ -20,12 +20,11 @@ use Rattle.fields.specs.Rounds.{IdWithin, FirstId}
 use Rattle.fields.proofs.Rings.{each-round}
 use Rattle.fields.proofs.Ids.{next-id, no-id, later-ids, round}
 use Rattle.fields.proofs.Shift as shift
-use Rattle.picture.specs.declared.Kind.{Kind}
-use Rattle.picture.specs.Kinds.{mfmOf}
-use Rattle.list.specs.Lines.{headOf, idOf, countOf}
-use Rattle.list.specs.Listing.{lineOf, linesBy, nextFrom, linesFrom, linesOf, joined, listingOf}
-use Rattle.list.specs.Plain.{IdOn, Among, Rising, ByCell, begins, lineAt}
-use Rattle.list.proofs.Rounds.{lead-most}
+use Rattle.picture.specs.declared.Shape.{Shape}
+use Rattle.list.specs.Lines.{headText, idText, countText}
+use Rattle.list.specs.Listing.{idLine, idLinesBy, nextFrom, idLinesFrom, idLines, joined, listingText}
+use Rattle.list.specs.Plain.{IdOn, Member, Rising, ByCell, begins, idLineAt}
+use Rattle.scan.proofs.Marks.{lead-most}
 
 -- ---- an ID of the ring is met in the second round
 
@@ -54,7 +53,7 @@ module _ (mfm : Bool) (row : List ℕ) where
     short : leadOf mfm ≤ length row
     short = omega (arith, lead-most mfm)
 
-    -- from the first lead of the second round up to six cells behind that round
+    -- from the first lead of the second round up to six cells after that round
     abbrev InRound : ℕ → Type 0
     InRound k = IdWithin mfm cells (length row - leadOf mfm) (length row + length row + 6) (begins mfm row k)
 
@@ -98,12 +97,12 @@ module _ (mfm : Bool) (row : List ℕ) (short : leadOf mfm ≤ length row) where
   -- lines of the IDs that stand from a place on
   record Rest (from : ℕ) (lines : List (List ℕ)) : Type 0 where
     fes : List ℕ
-    every : (k : ℕ) → Among k fes ↔ IdWithin mfm (cellsOf row) from end (begins mfm row k)
+    every : (k : ℕ) → Member k fes ↔ IdWithin mfm (cellsOf row) from end (begins mfm row k)
     order : Rising fes
-    same : lines ≡ map (lineAt mfm row) fes
+    same : lines ≡ map (idLineAt mfm row) fes
 
   none : (from : ℕ) → ((a : ℕ) → IdWithin mfm (cellsOf row) from end a → ⊥) → Rest from []
-  unfolding Among Rising
+  unfolding Member Rising
   none from nothing =
       record {
         fes = [];
@@ -120,15 +119,15 @@ module _ (mfm : Bool) (row : List ℕ) (short : leadOf mfm ≤ length row) where
     its : begins mfm row fe ≡ a
     its = omega (arith, f .within .low)
 
-    line : lineOf mfm row id (a + idWidth mfm) ≡ lineAt mfm row fe
-    unfolding lineOf lineAt
+    line : idLine mfm row id (a + idWidth mfm) ≡ idLineAt mfm row fe
+    unfolding idLine idLineAt
     line =
         let cell : a + idWidth mfm - 7 - length row ≡ fe = omega arith in
-        ap₂ (λ (n : ℕ) (x : Id). idOf n x (markBehind mfm row (a + idWidth mfm))) cell (f .says)
-        ∙ ap (λ (p : ℕ). idOf fe (idFrom mfm (cellsOf row) p) (markBehind mfm row (p + idWidth mfm))) (sym its)
+        ap₂ (λ (n : ℕ) (x : Id). idText n x (markBehind mfm row (a + idWidth mfm))) cell (f .says)
+        ∙ ap (λ (p : ℕ). idText fe (idFrom mfm (cellsOf row) p) (markBehind mfm row (p + idWidth mfm))) (sym its)
 
-    more : (lines : List (List ℕ)) → Rest (a + idWidth mfm) lines → Rest from (lineOf mfm row id (a + idWidth mfm) ∷ lines)
-    unfolding Among Rising
+    more : (lines : List (List ℕ)) → Rest (a + idWidth mfm) lines → Rest from (idLine mfm row id (a + idWidth mfm) ∷ lines)
+    unfolding Member Rising
     more lines rest =
         record {
           fes = fe ∷ rest .fes;
@@ -137,16 +136,16 @@ module _ (mfm : Bool) (row : List ℕ) (short : leadOf mfm ≤ length row) where
           same = ap₂ (λ (l : List ℕ) (ls : List (List ℕ)). l ∷ ls) line (rest .same);
         }
       where
-        there : (k : ℕ) → (k ≡ fe) ⊎ Among k (rest .fes) → IdWithin mfm (cellsOf row) from end (begins mfm row k)
+        there : (k : ℕ) → (k ≡ fe) ⊎ Member k (rest .fes) → IdWithin mfm (cellsOf row) from end (begins mfm row k)
         there k (inl e) = rw (e, its) (f .within)
         there k (inr among) =
             let w = rest .every k .0 among in
             record { low = omega (arith, f .within .low, w .low); high = w .high; stands = w .stands }
 
-        back : (k : ℕ) → IdWithin mfm (cellsOf row) from end (begins mfm row k) → (k ≡ fe) ⊎ Among k (rest .fes)
+        back : (k : ℕ) → IdWithin mfm (cellsOf row) from end (begins mfm row k) → (k ≡ fe) ⊎ Member k (rest .fes)
         back k w = by (decLt (begins mfm row k) a) (decLt a (begins mfm row k))
           where
-            by : Dec (begins mfm row k < a) → Dec (a < begins mfm row k) → (k ≡ fe) ⊎ Among k (rest .fes)
+            by : Dec (begins mfm row k < a) → Dec (a < begins mfm row k) → (k ≡ fe) ⊎ Member k (rest .fes)
             by (yes l) d = absurd (f .first (begins mfm row k) l w)
             by (no l) (yes r) =
                 inr (rest .every k .1 (later-ids mfm (cellsOf row) from end a (begins mfm row k) (f .within .stands) r w))
@@ -154,20 +153,20 @@ module _ (mfm : Bool) (row : List ℕ) (short : leadOf mfm ≤ length row) where
 
   -- so many lines are enough: every ID has a cell of its own
   turn : (n from : ℕ) → length row - leadOf mfm ≤ from → end ≤ from + suc n + 6 + leadOf mfm
-      → ((next : ℕ) → length row - leadOf mfm ≤ next → end ≤ next + n + 6 + leadOf mfm → Rest next (linesFrom mfm row n next))
+      → ((next : ℕ) → length row - leadOf mfm ≤ next → end ≤ next + n + 6 + leadOf mfm → Rest next (idLinesFrom mfm row n next))
       → (f : Found) → nextFrom mfm row from ≡ f
-      → Rest from (linesBy mfm row (λ behind. linesFrom mfm row n behind) f)
-  unfolding linesBy
+      → Rest from (idLinesBy mfm row (λ behind. idLinesFrom mfm row n behind) f)
+  unfolding idLinesBy
   turn n from low enough rest Nothing e = none from (no-id mfm row from end .0 e)
   turn n from low enough rest (At id behind) e =
       let (a, p, f) = next-id mfm row from end id behind .0 e in
       let on : from ≤ a = f .within .low in
       rw (← p)
-      (more from a id low f (linesFrom mfm row n (a + idWidth mfm)) (rest (a + idWidth mfm) (omega arith) (omega arith)))
+      (more from a id low f (idLinesFrom mfm row n (a + idWidth mfm)) (rest (a + idWidth mfm) (omega arith) (omega arith)))
 
   lines-from : (n from : ℕ) → length row - leadOf mfm ≤ from → end ≤ from + n + 6 + leadOf mfm
-      → Rest from (linesFrom mfm row n from)
-  unfolding linesFrom
+      → Rest from (idLinesFrom mfm row n from)
+  unfolding idLinesFrom
   lines-from zero from low enough = none from (λ a w. absurd (omega (arith, w .low, w .high)))
   lines-from (suc n) from low enough =
       turn n from low enough (λ next further more. lines-from n next further more) (nextFrom mfm row from) refl
@@ -175,19 +174,19 @@ module _ (mfm : Bool) (row : List ℕ) (short : leadOf mfm ≤ length row) where
 -- ---- the listing
 
 -- there is one list of the cells of all FEs
-behind-first : (k l : ℕ) (rest : List ℕ) → Among l (k ∷ rest) → k < l → Among l rest
-unfolding Among
+behind-first : (k l : ℕ) (rest : List ℕ) → Member l (k ∷ rest) → k < l → Member l rest
+unfolding Member
 behind-first k l rest (inl e) low = absurd (omega arith)
 behind-first k l rest (inr among) low = among
 
-first-least : (k l : ℕ) (rest : List ℕ) → Rising (k ∷ rest) → Among l (k ∷ rest) → k ≤ l
-unfolding Among Rising
+first-least : (k l : ℕ) (rest : List ℕ) → Rising (k ∷ rest) → Member l (k ∷ rest) → k ≤ l
+unfolding Member Rising
 first-least k l rest rising (inl e) = omega arith
 first-least k l rest rising (inr among) = omega (arith, rising .0 l among)
 
 same-list : (x y : List ℕ) → Rising x → Rising y
-    → ((k : ℕ) → Among k x → Among k y) → ((k : ℕ) → Among k y → Among k x) → x ≡ y
-unfolding Among Rising
+    → ((k : ℕ) → Member k x → Member k y) → ((k : ℕ) → Member k y → Member k x) → x ≡ y
+unfolding Member Rising
 same-list [] [] p q there back = refl
 same-list [] (l ∷ y) p q there back = absurd (back l (inl refl))
 same-list (k ∷ x) [] p q there back = absurd (there k (inl refl))
@@ -208,8 +207,8 @@ one-order mfm row x y p q =
 
 module _ (mfm : Bool) (row : List ℕ) (long : 3 ≤ length row) where
   -- "IDs by cell of FE, round the ring"
-  pub lists-all : (fes : List ℕ) × ByCell mfm row fes × (linesOf mfm row ≡ map (lineAt mfm row) fes)
-  unfolding linesOf
+  pub lists-all : (fes : List ℕ) × ByCell mfm row fes × (idLines mfm row ≡ map (idLineAt mfm row) fes)
+  unfolding idLines
   lists-all =
       let first = length row - leadOf mfm in
       let rest = lines-from mfm row (short mfm row long) (length row) first (omega arith) (omega arith) in (
@@ -226,14 +225,14 @@ module _ (mfm : Bool) (row : List ℕ) (long : 3 ≤ length row) where
       )
 
 -- the listing of a picture: its head, a line for each ID of the ring and for no others, in order, and how many they are
-pub lists : (k : Kind) (track side : ℕ) (row fes : List ℕ) → 3 ≤ length row → ByCell (mfmOf k) row fes
-    → listingOf k track side row
-    ≡ headOf k track side ++ joined (map (lineAt (mfmOf k) row) fes) ++ countOf (length fes)
-unfolding listingOf
-lists k track side row fes long by-cell =
-    let (found, order, lines) = lists-all (mfmOf k) row long in
-    let all : linesOf (mfmOf k) row ≡ map (lineAt (mfmOf k) row) fes =
-    lines ∙ ap (map (lineAt (mfmOf k) row)) (one-order (mfmOf k) row found fes order by-cell) in
-    ap (λ (ls : List (List ℕ)). headOf k track side ++ joined ls ++ countOf (length ls)) all
-    ∙ ap (λ (n : ℕ). headOf k track side ++ joined (map (lineAt (mfmOf k) row) fes) ++ countOf n)
-    (length-map fes (lineAt (mfmOf k) row))
+pub lists : (s : Shape) (track side : ℕ) (row fes : List ℕ) → 3 ≤ length row → ByCell (s .mfm) row fes
+    → listingText s track side row
+    ≡ headText (s .letter) track side ++ joined (map (idLineAt (s .mfm) row) fes) ++ countText (length fes)
+unfolding listingText
+lists s track side row fes long by-cell =
+    let (found, order, lines) = lists-all (s .mfm) row long in
+    let all : idLines (s .mfm) row ≡ map (idLineAt (s .mfm) row) fes =
+    lines ∙ ap (map (idLineAt (s .mfm) row)) (one-order (s .mfm) row found fes order by-cell) in
+    ap (λ (ls : List (List ℕ)). headText (s .letter) track side ++ joined ls ++ countText (length ls)) all
+    ∙ ap (λ (n : ℕ). headText (s .letter) track side ++ joined (map (idLineAt (s .mfm) row) fes) ++ countText n)
+    (length-map fes (idLineAt (s .mfm) row))

@@ -1,4 +1,4 @@
--- Texts put into a buffer, one behind another. Assumes nothing.
+-- Texts put into a buffer, one after another. Assumes nothing.
 use mathlib.Core.Path.{_≡_, sym, ap, ap₂, _∙_}
 use mathlib.Core.List.{List, [], _∷_, _++_}
 use Prim.Native.Nat.{ℕ, suc, _+_, _-_, _≤_, _<_}
@@ -10,7 +10,7 @@ use lib.Seq.{sets, take-all, drop-cons}
 use Rattle.text.specs.Decimal.{figuresOf, placesOf, decimalOf}
 use Rattle.list.specs.Lines.{Put}
 
--- the second text stands behind the first
+-- the second text stands after the first
 pub sets-append : (l : List ℕ) (i : ℕ) (a b : List ℕ) → sets l i (a ++ b) ≡ sets (sets l i a) (i + length a) b
 sets-append l i [] b = ap (λ (k : ℕ). sets l k b) (sym (add-zero i))
 sets-append l i (x ∷ a) b =

@@ -7,30 +7,30 @@ use lib.Dec.{eqb}
 use lib.ListN.{length, take}
 use lib.Seq.{sets, length-take-le}
 use borrow.Author.Tests.{eqb-true}
+use Rattle.common.specs.Laid.{laidRow}
 use Rattle.common.proofs.Cases.{both}
-use Rattle.picture.specs.Cells.{laid}
-use Rattle.picture.specs.Reader.{verdictOf, refusedBy, answerOf, filledOf, readOf, roomOf}
+use Rattle.picture.specs.Reader.{verdictOf, refusedBy, answerOf, filledOf, readerAnswer, readerRoom}
 use Rattle.list.specs.declared.listing.Printed.{Printed}
 use Rattle.list.specs.declared.Run.{Run}
 use Rattle.list.specs.Input.{Filled, moved}
 use Rattle.list.specs.Lines.{Put}
-use Rattle.list.specs.Listing.{textOf, refusedAt, printedOf}
-use Rattle.list.specs.Steps.{stepText, stepOf, Stepped}
+use Rattle.list.specs.Listing.{pictureText, isRefused, printedOf}
+use Rattle.list.specs.Steps.{stepText, nextRun, Stepped}
 
 -- no byte is left: the reader refuses, writes nothing and takes nothing
-none-goes : (room : ℕ) → record { held = 0; listed = true; over = true } ≡ stepOf [] room
-unfolding stepOf refusedAt readOf answerOf verdictOf refusedBy
+none-goes : (room : ℕ) → record { held = 0; listed = true; over = true } ≡ nextRun [] room
+unfolding nextRun isRefused readerAnswer answerOf verdictOf refusedBy
 none-goes room = refl
 
-none-cells : (room : List ℕ) → room ≡ roomOf [] room
-unfolding roomOf filledOf verdictOf
+none-cells : (room : List ℕ) → room ≡ readerRoom [] room
+unfolding readerRoom filledOf verdictOf
 none-cells room = refl
 
 module _ (run : Run) (bytes room out filled : List ℕ) (held : ℕ) (fills : Filled bytes (run .held) filled held) where
-  -- the input is at its end behind a picture
+  -- the input is at its end after a picture
   pub ended : (eqb held 0 && run .listed) ≡ true
       → Stepped run bytes room out (record { held = held; listed = true; over = true }) filled room out
-  unfolding stepText laid
+  unfolding stepText laidRow
   ended over =
       let parts = both (eqb held 0) (run .listed) over in
       let none : held ≡ 0 = eqb-true held 0 (parts .0) in
@@ -49,16 +49,16 @@ module _ (run : Run) (bytes room out filled : List ℕ) (held : ℕ) (fills : Fi
       (printed : Printed) (left : ℕ) (bytes′ room′ out′ : List ℕ)
       → (eqb held 0 && run .listed) ≡ false
       → printed ≡ printedOf (take held filled) room
-      → Put out 0 (textOf (take held filled) room) out′ (printed .at)
-      → room′ ≡ roomOf (take held filled) room
+      → Put out 0 (pictureText (take held filled) room) out′ (printed .at)
+      → room′ ≡ readerRoom (take held filled) room
       → left ≡ held - printed .taken
       → bytes′ ≡ moved filled (printed .taken) (held - printed .taken)
       → Stepped run bytes room out (record { held = left; listed = true; over = printed .refused }) bytes′ room′ out′
-  unfolding stepText stepOf printedOf
+  unfolding stepText nextRun printedOf
   listed printed left bytes′ room′ out′ test is put cells behind moves =
       let all : length (take held filled) ≡ held = length-take-le held filled (fills .within) in
-      let taken : printed .taken ≡ readOf (take held filled) (length room) .taken = ap (λ (p : Printed). p .taken) is in
-      let there : stepText (run .listed) (take held filled) room ≡ textOf (take held filled) room = rw (all, test) refl in
+      let taken : printed .taken ≡ readerAnswer (take held filled) (length room) .taken = ap (λ (p : Printed). p .taken) is in
+      let there : stepText (run .listed) (take held filled) room ≡ pictureText (take held filled) room = rw (all, test) refl in
       record {
         filled = filled;
         held = held;

@@ -9,28 +9,28 @@ use Rattle.scan.specs.Marks.{leadOf}
 use Rattle.scan.specs.Streams.{IdAt, idFrom, idWidth}
 use Rattle.fields.specs.Rings.{cellsOf}
 use Rattle.fields.specs.DataMarks.{markBehind}
-use Rattle.list.specs.Lines.{idOf}
+use Rattle.list.specs.Lines.{idText}
 
 -- an ID stands on the ring, over the ring's end or not, and its FE is cell k: it begins at some place of the cells as they
--- pass, round and round, and the FE stands behind its lead
+-- pass, round and round, and the FE stands after its lead
 pub record IdOn (mfm : Bool) (row : List ℕ) (k : ℕ) : Type 0 where
   pub place : ℕ
   pub stands : IdAt mfm (cellsOf row) place
   pub fe : (place + leadOf mfm) % length row ≡ k
 
 -- a number is one of a list's
-unfoldable pub Among : ℕ → List ℕ → Type 0
-Among k [] = ⊥
-Among k (l ∷ rest) = (k ≡ l) ⊎ Among k rest
+unfoldable pub Member : ℕ → List ℕ → Type 0
+Member k [] = ⊥
+Member k (l ∷ rest) = (k ≡ l) ⊎ Member k rest
 
--- each number of a list is below all behind it
+-- each number of a list is below all after it
 unfoldable pub Rising : List ℕ → Type 0
 Rising [] = Unit {0}
-Rising (k ∷ rest) = ((l : ℕ) → Among l rest → k < l) × Rising rest
+Rising (k ∷ rest) = ((l : ℕ) → Member l rest → k < l) × Rising rest
 
 -- "IDs by cell of FE, round the ring": the cells of the FEs of all IDs of the ring and no others, in order, each once
 pub record ByCell (mfm : Bool) (row fes : List ℕ) : Type 0 where
-  pub every : (k : ℕ) → Among k fes ↔ IdOn mfm row k
+  pub every : (k : ℕ) → Member k fes ↔ IdOn mfm row k
   pub order : Rising fes
 
 -- where the ID begins whose FE is cell k of the second round, so that its lead may stand at the end of the first
@@ -38,6 +38,6 @@ abbrev pub begins : Bool → List ℕ → ℕ → ℕ
 begins mfm row k = length row + k - leadOf mfm
 
 -- "cell in decimal, four bytes, CRC good or bad, data mark FB, F8 or none even if bad": the line of the ID whose FE is cell k
-unfoldable pub lineAt : Bool → List ℕ → ℕ → List ℕ
-lineAt mfm row k =
-    idOf k (idFrom mfm (cellsOf row) (begins mfm row k)) (markBehind mfm row (begins mfm row k + idWidth mfm))
+unfoldable pub idLineAt : Bool → List ℕ → ℕ → List ℕ
+idLineAt mfm row k =
+    idText k (idFrom mfm (cellsOf row) (begins mfm row k)) (markBehind mfm row (begins mfm row k + idWidth mfm))

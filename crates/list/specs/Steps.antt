@@ -7,26 +7,26 @@ use Prim.Native.Nat.{ℕ, _-_}
 use lib.Dec.{eqb}
 use lib.ListN.{length, take}
 use lib.Seq.{sets}
-use Rattle.picture.specs.Reader.{readOf, roomOf}
+use Rattle.picture.specs.Reader.{readerAnswer, readerRoom}
 use Rattle.list.specs.declared.Run.{Run}
 use Rattle.list.specs.Input.{Filled, moved}
-use Rattle.list.specs.Listing.{textOf, refusedAt}
+use Rattle.list.specs.Listing.{pictureText, isRefused}
 
 -- "only wholly empty input is 9 at a picture's start": where a picture was listed and no byte is held, nothing is printed
 unfoldable pub stepText : Bool → List ℕ → List ℕ → List ℕ
-stepText listed bytes room = cond (eqb (length bytes) 0 && listed) [] (textOf bytes room)
+stepText listed bytes room = cond (eqb (length bytes) 0 && listed) [] (pictureText bytes room)
 
--- the run goes on behind the picture's bytes; "A refusal .. ends the run", and so does the input's end
-unfoldable pub stepOf : List ℕ → ℕ → Run
-stepOf bytes room =
-    record { held = length bytes - readOf bytes room .taken; listed = true; over = refusedAt bytes room }
+-- the run goes on after the picture's bytes; "A refusal .. ends the run", and so does the input's end
+unfoldable pub nextRun : List ℕ → ℕ → Run
+nextRun bytes room =
+    record { held = length bytes - readerAnswer bytes room .taken; listed = true; over = isRefused bytes room }
 
 -- a step from a run, with the bytes held, the room and the output, to the next run and what these hold then
 pub record Stepped (run : Run) (bytes room out : List ℕ) (next : Run) (bytes′ room′ out′ : List ℕ) : Type 0 where
   pub filled : List ℕ
   pub held : ℕ
   pub fills : Filled bytes (run .held) filled held
-  pub goes : next ≡ stepOf (take held filled) (length room)
-  pub left : bytes′ ≡ moved filled (readOf (take held filled) (length room) .taken) (next .held)
-  pub cells : room′ ≡ roomOf (take held filled) room
+  pub goes : next ≡ nextRun (take held filled) (length room)
+  pub left : bytes′ ≡ moved filled (readerAnswer (take held filled) (length room) .taken) (next .held)
+  pub cells : room′ ≡ readerRoom (take held filled) room
   pub text : out′ ≡ sets out 0 (stepText (run .listed) (take held filled) room)

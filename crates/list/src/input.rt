@@ -13,7 +13,7 @@ pub fn fill(buffer: &mut [u8], held: usize) -> usize
     held + io::read_full(STDIN_FILENO, &mut buffer[held..])
 }
 
-// Moves the bytes held behind the first ones to the buffer's front, and hands back how many they are.
+// Moves the bytes held after the first ones to the buffer's front, and hands back how many they are.
 pub fn keep(buffer: &mut [u8], from: usize, held: usize) -> usize
     requires { ⌜ (from ≤ held) × (held ≤ length (now buffer)) ⌝ }
     ensures { λ r. ⌜ r ≡ held - from ⌝ }

@@ -1,12 +1,11 @@
 // The lines that the program prints. Each function puts its text into a lent buffer from a place on, and hands back the
-// place behind it.
+// place after it.
 ghost use mathlib.Core.Path.{_≡_};
 ghost use Prim.Native.Nat.{_+_, _≤_};
 ghost use lib.ListN.{length};
 ghost use Rattle.text.specs.Decimal.{decimalOf};
-ghost use Rattle.list.specs.Lines.{Put, letterOf, headOf, byteText, verdictOf, markOf, idOf, countOf, refusedOf};
+ghost use Rattle.list.specs.Lines.{Put, headText, byteText, crcText, markText, idText, countText, refusalText};
 use fields::Behind;
-use picture::Kind;
 use scan::Id;
 
 // The bytes of a piece.
@@ -43,33 +42,20 @@ fn put_decimal(out: &mut [u8], at: usize, n: u16) -> usize
     put_all(out, at, &figures[from..])
 }
 
-fn letter(kind: Kind) -> u8
-    ensures { λ r. ⌜ r ≡ letterOf kind ⌝ }
-{
-    match kind {
-        Kind::Fm => b'F',
-        Kind::Mfm => b'M',
-    }
-}
-
-// A picture's first line: the letter of its kind, track and side.
-pub fn put_head(out: &mut [u8], at: usize, kind: Kind, track: u8, side: u8) -> usize
+// A picture's first line: the letter of its shape, track and side.
+pub fn put_head(out: &mut [u8], at: usize, letter: u8, track: u8, side: u8) -> usize
     requires { ⌜ at + 7 ≤ length (now out) ⌝ }
-    ensures { λ r. ⌜ Put (now (out .entry)) at (headOf kind track side) (now (out .exit)) r ⌝ }
+    ensures { λ r. ⌜ Put (now (out .entry)) at (headText letter track side) (now (out .exit)) r ⌝ }
     ensures { λ r. ⌜ r ≤ at + 7 ⌝ }
 {
     let hex = text::hex(track as u16);
     let digit = text::digit(side as u16);
-    put_all(
-        out,
-        at,
-        &[letter(kind), b' ', hex[2], hex[3], b' ', digit, b'\n'],
-    )
+    put_all(out, at, &[letter, b' ', hex[2], hex[3], b' ', digit, b'\n'])
 }
 
 fn put_verdict(out: &mut [u8], at: usize, good: bool) -> usize
     requires { ⌜ at + 5 ≤ length (now out) ⌝ }
-    ensures { λ r. ⌜ Put (now (out .entry)) at (verdictOf good) (now (out .exit)) r ⌝ }
+    ensures { λ r. ⌜ Put (now (out .entry)) at (crcText good) (now (out .exit)) r ⌝ }
     ensures { λ r. ⌜ r ≤ at + 5 ⌝ }
 {
     if good {
@@ -80,7 +66,7 @@ fn put_verdict(out: &mut [u8], at: usize, good: bool) -> usize
 
 fn put_mark(out: &mut [u8], at: usize, behind: Behind) -> usize
     requires { ⌜ at + 5 ≤ length (now out) ⌝ }
-    ensures { λ r. ⌜ Put (now (out .entry)) at (markOf behind) (now (out .exit)) r ⌝ }
+    ensures { λ r. ⌜ Put (now (out .entry)) at (markText behind) (now (out .exit)) r ⌝ }
     ensures { λ r. ⌜ r ≤ at + 5 ⌝ }
 {
     match behind {
@@ -92,7 +78,7 @@ fn put_mark(out: &mut [u8], at: usize, behind: Behind) -> usize
 // An ID's line: the cell of its FE, its four bytes, its CRC and its data mark.
 pub fn put_id(out: &mut [u8], at: usize, cell: u16, id: Id, behind: Behind) -> usize
     requires { ⌜ at + 28 ≤ length (now out) ⌝ }
-    ensures { λ r. ⌜ Put (now (out .entry)) at (idOf cell id behind) (now (out .exit)) r ⌝ }
+    ensures { λ r. ⌜ Put (now (out .entry)) at (idText cell id behind) (now (out .exit)) r ⌝ }
     ensures { λ r. ⌜ r ≤ at + 28 ⌝ }
 {
     let at = put_decimal(out, at, cell);
@@ -108,7 +94,7 @@ pub fn put_id(out: &mut [u8], at: usize, cell: u16, id: Id, behind: Behind) -> u
 // A picture's last line: how many IDs it has.
 pub fn put_count(out: &mut [u8], at: usize, ids: u16) -> usize
     requires { ⌜ at + 10 ≤ length (now out) ⌝ }
-    ensures { λ r. ⌜ Put (now (out .entry)) at (countOf ids) (now (out .exit)) r ⌝ }
+    ensures { λ r. ⌜ Put (now (out .entry)) at (countText ids) (now (out .exit)) r ⌝ }
     ensures { λ r. ⌜ r ≤ at + 10 ⌝ }
 {
     let at = put_all(out, at, b"ids ");
@@ -119,7 +105,7 @@ pub fn put_count(out: &mut [u8], at: usize, ids: u16) -> usize
 // The line of a refusal.
 pub fn put_refused(out: &mut [u8], at: usize, number: u8) -> usize
     requires { ⌜ at + 14 ≤ length (now out) ⌝ }
-    ensures { λ r. ⌜ Put (now (out .entry)) at (refusedOf number) (now (out .exit)) r ⌝ }
+    ensures { λ r. ⌜ Put (now (out .entry)) at (refusalText number) (now (out .exit)) r ⌝ }
     ensures { λ r. ⌜ r ≤ at + 14 ⌝ }
 {
     let at = put_all(out, at, b"refused ");

@@ -2,15 +2,16 @@
 ghost use mathlib.Core.Path.{_≡_};
 ghost use Prim.Native.Nat.{_+_, _-_, _*_, _≤_};
 ghost use lib.ListN.{length};
+ghost use Rattle.scan.specs.Rows.{longestRow};
 ghost use Rattle.scan.specs.Marks.{leadOf};
-ghost use Rattle.picture.specs.Reader.{roomOf};
+ghost use Rattle.picture.specs.Reader.{readerRoom};
 ghost use Rattle.list.specs.Lines.{Put};
-ghost use Rattle.list.specs.Listing.{joined, linesOf, listingOf, textOf, printedOf};
+ghost use Rattle.list.specs.Listing.{joined, idLines, listingText, listingRoom, pictureText, printedOf};
 use crate::lines;
 use fields::Found;
-use picture::Kind;
+use picture::Shape;
 
-// The place behind the lines, and how many they are.
+// The place after the lines, and how many they are.
 pub struct Listed {
     pub at: usize,
     pub ids: u16,
@@ -29,10 +30,10 @@ fn round_start(mfm: bool, size: u32) -> u32
 
 // A line for each ID, by the cell of its FE, round the ring.
 fn put_ids(out: &mut [u8], at: usize, mfm: bool, row: &[u16]) -> Listed
-    requires { ⌜ (3 ≤ length (now row)) × (length (now row) ≤ 6400) ⌝ }
+    requires { ⌜ (3 ≤ length (now row)) × (length (now row) ≤ longestRow) ⌝ }
     requires { ⌜ at + (length (now row) + 9) * 4 ≤ length (now out) ⌝ }
-    ensures { λ r. ⌜ Put (now (out .entry)) at (joined (linesOf mfm (now (row .entry)))) (now (out .exit)) (r .at) ⌝ }
-    ensures { λ r. ⌜ r .ids ≡ length (linesOf mfm (now (row .entry))) ⌝ }
+    ensures { λ r. ⌜ Put (now (out .entry)) at (joined (idLines mfm (now (row .entry)))) (now (out .exit)) (r .at) ⌝ }
+    ensures { λ r. ⌜ r .ids ≡ length (idLines mfm (now (row .entry))) ⌝ }
     ensures { λ r. ⌜ r .at ≤ at + (length (now (row .entry)) + 9) * 4 ⌝ }
 {
     let size = row.len() as u32;
@@ -55,15 +56,15 @@ fn put_ids(out: &mut [u8], at: usize, mfm: bool, row: &[u16]) -> Listed
     Listed { at: next, ids }
 }
 
-// The whole listing of a picture: its head, a line for each ID, their count. Hands back the place behind it.
-pub fn put_listing(out: &mut [u8], kind: Kind, track: u8, side: u8, row: &[u16]) -> usize
-    requires { ⌜ (3 ≤ length (now row)) × (length (now row) ≤ 6400) ⌝ }
-    requires { ⌜ 26000 ≤ length (now out) ⌝ }
-    ensures { λ r. ⌜ Put (now (out .entry)) 0 (listingOf kind track side (now (row .entry))) (now (out .exit)) r ⌝ }
-    ensures { λ r. ⌜ r ≤ 26000 ⌝ }
+// The whole listing of a picture: its head, a line for each ID, their count. Hands back the place after it.
+pub fn put_listing(out: &mut [u8], shape: Shape, track: u8, side: u8, row: &[u16]) -> usize
+    requires { ⌜ (3 ≤ length (now row)) × (length (now row) ≤ longestRow) ⌝ }
+    requires { ⌜ listingRoom ≤ length (now out) ⌝ }
+    ensures { λ r. ⌜ Put (now (out .entry)) 0 (listingText shape track side (now (row .entry))) (now (out .exit)) r ⌝ }
+    ensures { λ r. ⌜ r ≤ listingRoom ⌝ }
 {
-    let at = lines::put_head(out, 0, kind, track, side);
-    let listed = put_ids(out, at, kind.mfm(), row);
+    let at = lines::put_head(out, 0, shape.letter, track, side);
+    let listed = put_ids(out, at, shape.mfm, row);
     lines::put_count(out, listed.at, listed.ids)
 }
 
@@ -76,11 +77,12 @@ pub struct Printed {
 
 // What is printed of the first picture of the bytes: its listing, or its refusal.
 pub fn put_picture(out: &mut [u8], bytes: &[u8], room: &mut [u16]) -> Printed
-    requires { ⌜ (length (now room) ≡ 6400) × (26000 ≤ length (now out)) ⌝ }
+    requires { ⌜ (length (now room) ≡ longestRow) × (listingRoom ≤ length (now out)) ⌝ }
     ensures { λ r. ⌜ r ≡ printedOf (now (bytes .entry)) (now (room .entry)) ⌝ }
-    ensures { λ r. ⌜ Put (now (out .entry)) 0 (textOf (now (bytes .entry)) (now (room .entry))) (now (out .exit)) (r .at) ⌝ }
-    ensures { λ _. ⌜ now (room .exit) ≡ roomOf (now (bytes .entry)) (now (room .entry)) ⌝ }
-    ensures { λ r. ⌜ (r .at ≤ 26000) × (r .taken ≤ length (now (bytes .entry))) ⌝ }
+    ensures { λ r. ⌜ Put (now (out .entry)) 0 (pictureText (now (bytes .entry)) (now (room .entry)))
+        (now (out .exit)) (r .at) ⌝ }
+    ensures { λ _. ⌜ now (room .exit) ≡ readerRoom (now (bytes .entry)) (now (room .entry)) ⌝ }
+    ensures { λ r. ⌜ (r .at ≤ listingRoom) × (r .taken ≤ length (now (bytes .entry))) ⌝ }
 {
     let answer = picture::read(bytes, room);
     if answer.number != 0 {
@@ -92,8 +94,9 @@ pub fn put_picture(out: &mut [u8], bytes: &[u8], room: &mut [u16]) -> Printed
         };
     }
     let kind = answer.kind;
-    let cells = kind.length();
-    let at = put_listing(out, kind, answer.track, answer.side, &room[..cells]);
+    let shape = kind.shape();
+    let cells = shape.length;
+    let at = put_listing(out, shape, answer.track, answer.side, &room[..cells]);
     Printed {
         at,
         taken: answer.taken,

@@ -2,6 +2,8 @@
 ghost use mathlib.Core.Path.{_≡_};
 ghost use Prim.Native.Nat.{_≤_};
 ghost use lib.ListN.{length};
+ghost use Rattle.scan.specs.Rows.{longestRow};
+ghost use Rattle.list.specs.Listing.{listingRoom};
 ghost use Rattle.list.specs.Steps.{Stepped};
 
 mod input;
@@ -25,7 +27,7 @@ fn flush(out: &[u8], count: usize)
 
 // The next picture, where one begins: "only wholly empty input is 9 at a picture's start".
 fn step(run: Run, bytes: &mut [u8], room: &mut [u16], out: &mut [u8]) -> Run
-    requires { ⌜ (run .held ≤ length (now bytes)) × ((length (now room) ≡ 6400) × (length (now out) ≡ 65536)) ⌝ }
+    requires { ⌜ (run .held ≤ length (now bytes)) × ((length (now room) ≡ longestRow) × (listingRoom ≤ length (now out))) ⌝ }
     ensures { λ r. ⌜ Stepped run (now (bytes .entry)) (now (room .entry)) (now (out .entry)) r
         (now (bytes .exit)) (now (room .exit)) (now (out .exit)) ⌝ }
     ensures { λ r. ⌜ r .held ≤ length (now (bytes .exit)) ⌝ }
@@ -51,7 +53,7 @@ fn step(run: Run, bytes: &mut [u8], room: &mut [u16], out: &mut [u8]) -> Run
 // Lists all pictures. A proved loop has to end, and nothing says that the input does: so the pictures are counted down, from
 // a number that no input uses up.
 fn list(bytes: &mut [u8], room: &mut [u16], out: &mut [u8])
-    requires { ⌜ (length (now room) ≡ 6400) × (length (now out) ≡ 65536) ⌝ }
+    requires { ⌜ (length (now room) ≡ longestRow) × (listingRoom ≤ length (now out)) ⌝ }
 {
     let mut run = Run {
         held: 0,
@@ -69,8 +71,8 @@ fn list(bytes: &mut [u8], room: &mut [u16], out: &mut [u8])
 }
 
 fn main() {
-    let mut bytes = [0u8; 7035];
-    let mut room = [0u16; 6400];
+    let mut bytes = [0u8; picture::LONGEST];
+    let mut room = [0u16; scan::LONGEST_ROW];
     let mut out = io::large_buffer();
     list(&mut bytes, &mut room, &mut out);
 }

@@ -1,4 +1,4 @@
--- The test for padding says exactly that each flag bit behind the last cell's is 0. Assumes nothing.
+-- The test for padding says exactly that each flag bit after the last cell's is 0. Assumes nothing.
 use mathlib.Core.Path.{_≡_, sym, ap, _∙_}
 use mathlib.Core.Bool.{true}
 use Prim.Native.Nat.{ℕ, zero, suc, _+_, _-_, _*_, _/_, _%_, _^_, _≤_, _<_}
@@ -7,9 +7,7 @@ use native.Mathlib.Numerals.{one-add}
 use native.Mathlib.Omega.{arith}
 use lib.Pow.{mod-pow-add, mod-mod-pow, field}
 use borrow.Author.Tests.{eqb-true, eq-eqb}
-use Rattle.picture.specs.Kinds.{flagBytes}
-use Rattle.picture.specs.Cells.{flagIn}
-use Rattle.picture.specs.Reader.{spareBits, paddingClear}
+use Rattle.picture.specs.Layout.{flagBytes, flagIn, spareBits, spareClear}
 
 -- a number that 2 ^ s divides has s zeros as its lowest bits, and the other way round
 low-zeros : (d n j : ℕ) → n % 2 ^ (d + 1 + j) ≡ 0 → n / 2 ^ j % 2 ≡ 0
@@ -31,17 +29,17 @@ module _ (cells last : ℕ) where
   abbrev Clear : Type 0
   Clear = (i : ℕ) → cells ≤ i → i < flagBytes cells * 8 → flagIn last i ≡ 0
 
-  pub padding-clear : paddingClear cells last ≡ true → Clear
-  unfolding paddingClear flagIn
-  padding-clear test i beyond within =
+  pub spare-clear : spareClear cells last ≡ true → Clear
+  unfolding spareClear flagIn
+  spare-clear test i beyond within =
       let none = eqb-true (last % 2 ^ spareBits cells) 0 test in
       let d = spareBits cells - 1 - (7 - i % 8) in
       let s : spareBits cells ≡ d + 1 + (7 - i % 8) = omega arith in
       low-zeros d last (7 - i % 8) (rw s at none)
 
-  pub clear-padding : Clear → paddingClear cells last ≡ true
-  unfolding paddingClear flagIn
-  clear-padding each =
+  pub clear-spare : Clear → spareClear cells last ≡ true
+  unfolding spareClear flagIn
+  clear-spare each =
       eq-eqb _ _
       (no-low-bits (spareBits cells) last
       (λ j below.

@@ -13,13 +13,14 @@ use Rattle.picture.specs.declared.Named.{Named}
 use Rattle.picture.specs.declared.Named.the-variants.{Known, Unknown}
 use Rattle.picture.specs.declared.Verdict.{Verdict}
 use Rattle.picture.specs.declared.Verdict.the-variants.{Sound}
-use Rattle.picture.specs.Kinds.{kindOf, lengthOf, bodyOf}
+use Rattle.picture.specs.Kinds.{kindOf, lengthOf}
+use Rattle.picture.specs.Layout.{bodyLength}
 use Rattle.picture.specs.Reader.{soundOf, judgedFor, judgedOf, verdictOf}
 
 module _ (bytes : List ℕ) (room : ℕ) where
   -- all its bytes are there, its cells find room, its side is 0 or 1 and its padding clear
   pub record Whole (k : Kind) : Type 0 where
-    pub there : bodyOf k < length bytes
+    pub there : bodyLength k < length bytes
     pub wide : lengthOf k ≤ room
     pub clean : soundOf k bytes ≡ true
 
@@ -30,7 +31,7 @@ module _ (bytes : List ℕ) (room : ℕ) where
   judged-whole : (j k : Kind) → judgedFor bytes room j ≡ Sound k → (j ≡ k) × Whole j
   unfolding judgedFor
   judged-whole j k =
-      by-cond P (leb (length bytes) (bodyOf j)) (λ _ e. never (cc))
+      by-cond P (leb (length bytes) (bodyLength j)) (λ _ e. never (cc))
       (λ long. by-cond P (ltb room (lengthOf j)) (λ _ e. never (cc))
       (λ fits. by-cond P (soundOf j bytes)
       (λ is e. (cc, record { there = leb-false _ _ long; wide = ltb-false _ _ fits; clean = is }))

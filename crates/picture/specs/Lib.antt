@@ -1,4 +1,4 @@
 -- The definitions that the contracts of `picture` cite.
 pub mod Kinds
-pub mod Cells
+pub mod Layout
 pub mod Reader

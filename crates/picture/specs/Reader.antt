@@ -1,9 +1,10 @@
 -- The reader of pictures, document 01, "Pictures and the viewer" and "Numbers handed back". Assumes nothing.
 use mathlib.Core.Bool.{Bool, cond, _&&_}
 use mathlib.Core.List.{List}
-use Prim.Native.Nat.{ℕ, _-_, _%_, _^_}
+use Prim.Native.Nat.{ℕ}
 use lib.Dec.{ltb, leb, eqb}
 use lib.ListN.{length, getD}
+use Rattle.common.specs.Laid.{laidRow}
 use Rattle.picture.specs.declared.Kind.{Kind}
 use Rattle.picture.specs.declared.Kind.the-variants.{Fm}
 use Rattle.picture.specs.declared.Named.{Named}
@@ -11,25 +12,17 @@ use Rattle.picture.specs.declared.Named.the-variants.{Known, Unknown}
 use Rattle.picture.specs.declared.Verdict.{Verdict}
 use Rattle.picture.specs.declared.Verdict.the-variants.{Sound, Refused}
 use Rattle.picture.specs.declared.Answer.{Answer}
-use Rattle.picture.specs.Kinds.{kindOf, lengthOf, bodyOf, sizeOf}
-use Rattle.picture.specs.Cells.{cellsIn}
-
--- how many bits of the last flag byte stand for no cell
-abbrev pub spareBits : ℕ → ℕ
-spareBits cells = (8 - cells % 8) % 8
-
--- ".. padding 0": these are the lowest of the last flag byte
-unfoldable pub paddingClear : ℕ → ℕ → Bool
-paddingClear cells last = eqb (last % 2 ^ spareBits cells) 0
+use Rattle.picture.specs.Kinds.{kindOf, lengthOf}
+use Rattle.picture.specs.Layout.{bodyLength, pictureLength, pictureCell, paddingClear}
 
 -- not "10: side byte above 1, or a padding bit set"
 unfoldable pub soundOf : Kind → List ℕ → Bool
-soundOf k bytes = leb (getD bytes 2 0) 1 && paddingClear (lengthOf k) (getD bytes (bodyOf k) 0)
+soundOf k bytes = leb (getD bytes 2 0) 1 && paddingClear k bytes
 
 -- .. then "9: picture ends early", "12: room for cells smaller than the kind's L", 10
 unfoldable pub judgedFor : List ℕ → ℕ → Kind → Verdict
 judgedFor bytes room k =
-    cond (leb (length bytes) (bodyOf k)) (Refused 9)
+    cond (leb (length bytes) (bodyLength k)) (Refused 9)
     (cond (ltb room (lengthOf k)) (Refused 12) (cond (soundOf k bytes) (Sound k) (Refused 10)))
 
 -- .. then "8: picture kind is not 46 or 4D (hex)"
@@ -48,20 +41,24 @@ refusedBy number = record { number = number; kind = Fm; track = 0; side = 0; tak
 -- "The reader takes the first picture": its track and side, and as many bytes as it has
 unfoldable pub takenFrom : List ℕ → Kind → Answer
 takenFrom bytes k =
-    record { number = 0; kind = k; track = getD bytes 1 0; side = getD bytes 2 0; taken = sizeOf k }
+    record { number = 0; kind = k; track = getD bytes 1 0; side = getD bytes 2 0; taken = pictureLength k }
 
 unfoldable pub answerOf : List ℕ → Verdict → Answer
 answerOf bytes (Sound k) = takenFrom bytes k
 answerOf bytes (Refused number) = refusedBy number
 
+-- a room with the cells of a picture in its first places
+unfoldable pub roomWithPicture : Kind → List ℕ → List ℕ → List ℕ
+roomWithPicture k bytes room = laidRow room (λ i. i) (pictureCell k bytes) (lengthOf k)
+
 -- ".. and leaves bytes and room beyond it untouched"; refused: "nothing written"
 unfoldable pub filledOf : List ℕ → List ℕ → Verdict → List ℕ
-filledOf bytes room (Sound k) = cellsIn k bytes room
+filledOf bytes room (Sound k) = roomWithPicture k bytes room
 filledOf bytes room (Refused number) = room
 
--- the reader's answer, and the room behind it
-unfoldable pub readOf : List ℕ → ℕ → Answer
-readOf bytes room = answerOf bytes (verdictOf bytes room)
+-- the reader's answer, and the room after it
+unfoldable pub readerAnswer : List ℕ → ℕ → Answer
+readerAnswer bytes room = answerOf bytes (verdictOf bytes room)
 
-unfoldable pub roomOf : List ℕ → List ℕ → List ℕ
-roomOf bytes room = filledOf bytes room (verdictOf bytes (length room))
+unfoldable pub readerRoom : List ℕ → List ℕ → List ℕ
+readerRoom bytes room = filledOf bytes room (verdictOf bytes (length room))

@@ -2,15 +2,32 @@
 ghost use mathlib.Core.Path.{_≡_};
 ghost use Prim.Native.Nat.{_+_, _≤_, _<_};
 ghost use lib.ListN.{length};
-ghost use Rattle.picture.specs.Kinds.{kindOf, mfmOf, lengthOf, bodyOf};
-ghost use Rattle.picture.specs.Cells.{cellFrom, cellsIn};
-ghost use Rattle.picture.specs.Reader.{paddingClear, soundOf, judgedFor, judgedOf, verdictOf};
-ghost use Rattle.picture.specs.Reader.{refusedBy, takenFrom, readOf, roomOf};
+ghost use Rattle.scan.specs.Rows.{shortestRow, longestRow};
+ghost use Rattle.picture.specs.Kinds.{kindOf, shapeOf, lengthOf};
+ghost use Rattle.picture.specs.Layout.{cellPlace, bodyLength, longestPicture, cellFrom, pictureCell, spareClear, paddingClear};
+ghost use Rattle.picture.specs.Reader.{soundOf, judgedFor, judgedOf, verdictOf, roomWithPicture};
+ghost use Rattle.picture.specs.Reader.{refusedBy, takenFrom, readerAnswer, readerRoom};
 
-// What a picture can be of. Density and length of a kind stand here, and nowhere else.
+// No picture has more bytes.
+pub const LONGEST: usize = 3 + scan::LONGEST_ROW + (scan::LONGEST_ROW + 7) / 8;
+
+// The kinds of pictures, each with a shape and a layout.
 pub enum Kind {
     Fm,
     Mfm,
+}
+
+// What a picture is of: the letter that stands for it, the density, and the cells of the track.
+pub struct Shape {
+    pub letter: u8,
+    pub mfm: bool,
+    pub length: usize,
+}
+
+// Where in a picture the byte of a cell stands, and the byte with its flag bit.
+struct CellPlace {
+    byte: usize,
+    flags: usize,
 }
 
 // What a picture's first byte stands for.
@@ -47,49 +64,76 @@ fn kind_of(byte: u8) -> Named
 }
 
 impl Kind {
-    pub fn mfm(self) -> bool
-        ensures { λ r. ⌜ r ≡ mfmOf self ⌝ }
+    pub fn shape(self) -> Shape
+        ensures { λ r. ⌜ r ≡ shapeOf self ⌝ }
+        ensures { λ r. ⌜ (shortestRow ≤ r .length) × (r .length ≤ longestRow) ⌝ }
     {
         match self {
-            Kind::Fm => false,
-            Kind::Mfm => true,
+            Kind::Fm => Shape {
+                letter: b'F',
+                mfm: false,
+                length: 3125,
+            },
+            Kind::Mfm => Shape {
+                letter: b'M',
+                mfm: true,
+                length: 6250,
+            },
         }
     }
 
     // The cells of the track.
     pub fn length(self) -> usize
         ensures { λ r. ⌜ r ≡ lengthOf self ⌝ }
-        ensures { λ r. ⌜ (2048 ≤ r) × (r ≤ 6400) ⌝ }
+        ensures { λ r. ⌜ (shortestRow ≤ r) × (r ≤ longestRow) ⌝ }
     {
-        match self {
-            Kind::Fm => 3125,
-            Kind::Mfm => 6250,
+        let shape = self.shape();
+        shape.length
+    }
+
+    // The layout: the data bytes stand after kind, track and side, and the flag bytes after them.
+    fn place(self, cell: usize) -> CellPlace
+        requires { ⌜ cell < lengthOf self ⌝ }
+        ensures { λ r. ⌜ r ≡ cellPlace self cell ⌝ }
+        ensures { λ r. ⌜ (r .byte ≤ bodyLength self) × (r .flags ≤ bodyLength self) ⌝ }
+    {
+        let cells = self.length();
+        CellPlace {
+            byte: 3 + cell,
+            flags: 3 + cells + cell / 8,
         }
     }
 
-    // The bytes behind the kind's: track, side, data and flags.
+    // The bytes after the kind's: track, side, data and flags.
     fn body(self) -> usize
-        ensures { λ r. ⌜ r ≡ bodyOf self ⌝ }
-        ensures { λ r. ⌜ (2 ≤ r) × (r ≤ 7202) ⌝ }
+        ensures { λ r. ⌜ r ≡ bodyLength self ⌝ }
+        ensures { λ r. ⌜ (2 ≤ r) × (r < longestPicture) ⌝ }
     {
         let cells = self.length();
         2 + cells + (cells + 7) / 8
     }
 }
 
-// The bits of the last flag byte behind that of the last cell are 0. Where every bit is a cell's, there are none.
-fn padding_clear(cells: usize, last: u8) -> bool
-    ensures { λ r. ⌜ r ≡ paddingClear cells last ⌝ }
+// The bits of the last flag byte after that of the last cell are 0. Where every bit is a cell's, there are none.
+fn spare_clear(cells: usize, last: u8) -> bool
+    ensures { λ r. ⌜ r ≡ spareClear cells last ⌝ }
 {
     (last as usize) % (1 << ((8 - cells % 8) % 8)) == 0
 }
 
-fn sound(kind: Kind, bytes: &[u8]) -> bool
-    requires { ⌜ bodyOf kind < length (now bytes) ⌝ }
-    ensures { λ r. ⌜ r ≡ soundOf kind (now (bytes .entry)) ⌝ }
+fn padding_clear(kind: Kind, bytes: &[u8]) -> bool
+    requires { ⌜ bodyLength kind < length (now bytes) ⌝ }
+    ensures { λ r. ⌜ r ≡ paddingClear kind (now (bytes .entry)) ⌝ }
 {
     let last = kind.body();
-    (bytes[2] <= 1) & padding_clear(kind.length(), bytes[last])
+    spare_clear(kind.length(), bytes[last])
+}
+
+fn sound(kind: Kind, bytes: &[u8]) -> bool
+    requires { ⌜ bodyLength kind < length (now bytes) ⌝ }
+    ensures { λ r. ⌜ r ≡ soundOf kind (now (bytes .entry)) ⌝ }
+{
+    (bytes[2] <= 1) & padding_clear(kind, bytes)
 }
 
 fn judge_for(kind: Kind, bytes: &[u8], room: usize) -> Verdict
@@ -133,15 +177,26 @@ fn cell(byte: u8, flags: u8, place: usize) -> u16
     byte as u16 + ((flags >> (7 - place % 8)) % 2) as u16 * 256
 }
 
+// A cell of a picture.
+fn cell_in(kind: Kind, bytes: &[u8], i: usize) -> u16
+    requires { ⌜ (bodyLength kind < length (now bytes)) × (i < lengthOf kind) ⌝ }
+    ensures { λ r. ⌜ r ≡ pictureCell kind (now (bytes .entry)) i ⌝ }
+{
+    let place = kind.place(i);
+    let byte = place.byte;
+    let flags = place.flags;
+    cell(bytes[byte], bytes[flags], i)
+}
+
 // The cells of a picture go to the room's first places.
 fn lay(kind: Kind, bytes: &[u8], room: &mut [u16])
-    requires { ⌜ (bodyOf kind < length (now bytes)) × (lengthOf kind ≤ length (now room)) ⌝ }
-    ensures { λ _. ⌜ now (room .exit) ≡ cellsIn kind (now (bytes .entry)) (now (room .entry)) ⌝ }
+    requires { ⌜ (bodyLength kind < length (now bytes)) × (lengthOf kind ≤ length (now room)) ⌝ }
+    ensures { λ _. ⌜ now (room .exit) ≡ roomWithPicture kind (now (bytes .entry)) (now (room .entry)) ⌝ }
 {
     let cells = kind.length();
     let mut i = 0;
     while i < cells {
-        room[i] = cell(bytes[3 + i], bytes[3 + cells + i / 8], i);
+        room[i] = cell_in(kind, bytes, i);
         i += 1;
     }
 }
@@ -159,7 +214,7 @@ fn refused(number: u8) -> Answer
 }
 
 fn taken(kind: Kind, bytes: &[u8]) -> Answer
-    requires { ⌜ bodyOf kind < length (now bytes) ⌝ }
+    requires { ⌜ bodyLength kind < length (now bytes) ⌝ }
     ensures { λ r. ⌜ r ≡ takenFrom (now (bytes .entry)) kind ⌝ }
 {
     let body = kind.body();
@@ -174,8 +229,8 @@ fn taken(kind: Kind, bytes: &[u8]) -> Answer
 
 // Reads the first picture of the bytes into the room.
 pub fn read(bytes: &[u8], room: &mut [u16]) -> Answer
-    ensures { λ r. ⌜ r ≡ readOf (now (bytes .entry)) (length (now (room .entry))) ⌝ }
-    ensures { λ _. ⌜ now (room .exit) ≡ roomOf (now (bytes .entry)) (now (room .entry)) ⌝ }
+    ensures { λ r. ⌜ r ≡ readerAnswer (now (bytes .entry)) (length (now (room .entry))) ⌝ }
+    ensures { λ _. ⌜ now (room .exit) ≡ readerRoom (now (bytes .entry)) (now (room .entry)) ⌝ }
 {
     match judge(bytes, room.len()) {
         Verdict::Sound(kind) => {

@@ -1,10 +1,10 @@
--- Read Sector behind its ID, Read Address and Read Track: document 01, "Moving bytes". Assumes nothing.
+-- Read Sector after its ID, Read Address and Read Track: document 01, "Moving bytes". Assumes nothing.
 use mathlib.Core.Bool.{Bool, cond, not}
 use Prim.Native.Nat.{ℕ, _+_, _-_}
 use lib.Dec.{ltb, leb, eqb}
 use Rattle.crc.specs.Crc.{crcByte}
-use Rattle.scan.specs.Marks.{byteOf, passedOf, markCrc}
-use Rattle.scan.specs.DataMarks.{windowOf, soughtOf, markByte, isDeleted}
+use Rattle.scan.specs.Marks.{byteOf, markStep, markCrc}
+use Rattle.scan.specs.DataMarks.{windowOf, dataMarkStep, markByte, isDeleted}
 use Rattle.scan.specs.declared.Passed.{Passed}
 use Rattle.scan.specs.declared.Passed.the-variants.{Gap, Mark}
 use Rattle.scan.specs.declared.Sought.{Sought}
@@ -15,32 +15,32 @@ use Rattle.activity.specs.declared.Act.{Act}
 use Rattle.activity.specs.declared.Activity.{Activity}
 use Rattle.activity.specs.declared.Activity.the-variants.{Idle, Window, Data, Hunt, Address, TrackRead}
 use Rattle.activity.specs.declared.Deed.the-variants.{Nothing, Deliver, Named, NotFound, Record}
-use Rattle.search.specs.Search.{pulsesOf, againOf}
+use Rattle.search.specs.Search.{pulsesSeen, afterRecord}
 
 -- ---- Read Sector
 
 -- "No data mark by the window's last cell: bit 4, end there."
-unfoldable pub missedOf : Seen → ℕ → ℕ → ℕ → Act
-missedOf s left passed run =
+unfoldable pub windowMissed : Seen → ℕ → ℕ → ℕ → Act
+windowMissed s left passed run =
     cond (ltb (passed + 1) (windowOf (s .mfm))) (pass s (Window left (passed + 1) run) Nothing) (pass s Idle NotFound)
 
-unfoldable pub metOf : Seen → ℕ → ℕ → Sought → Act
-metOf s left passed (On run) = missedOf s left passed run
-metOf s left passed (Met mark) = pass s (Data left (markCrc (s .mfm) (markByte mark)) (isDeleted mark)) Nothing
+unfoldable pub windowStep : Seen → ℕ → ℕ → Sought → Act
+windowStep s left passed (On run) = windowMissed s left passed run
+windowStep s left passed (Met mark) = pass s (Data left (markCrc (s .mfm) (markByte mark)) (isDeleted mark)) Nothing
 
--- a cell behind the ID, so many of the window having passed
-unfoldable pub awaitedOf : Seen → ℕ → ℕ → ℕ → Act
-awaitedOf s left passed run = metOf s left passed (soughtOf (s .mfm) (s .cell) run)
+-- a cell after the ID, so many of the window having passed
+unfoldable pub windowCell : Seen → ℕ → ℕ → ℕ → Act
+windowCell s left passed run = windowStep s left passed (dataMarkStep (s .mfm) (s .cell) run)
 
 -- "Each data byte, flags ignored, goes to DR and sets DRQ". "At the second CRC cell: bit 3 if bad, bit 5 on if F8, else off,
 -- Busy off, INTRQ. With m, SR goes up by one": left counts the two CRC cells too.
-unfoldable pub readOf : Seen → Bool → ℕ → ℕ → Bool → Act
-readOf s multiple left crc deleted =
+unfoldable pub dataCell : Seen → Bool → ℕ → ℕ → Bool → Act
+dataCell s multiple left crc deleted =
     cond (leb 3 left)
     (pass s (Data (left - 1) (crcByte crc (byteOf (s .cell))) deleted) (Deliver (byteOf (s .cell))))
     (cond (eqb left 2)
     (pass s (Data 1 (crcByte crc (byteOf (s .cell))) deleted) Nothing)
-    (pass s (againOf multiple) (Record deleted (not (eqb (crcByte crc (byteOf (s .cell))) 0)) multiple)))
+    (pass s (afterRecord multiple) (Record deleted (not (eqb (crcByte crc (byteOf (s .cell))) 0)) multiple)))
 
 -- ---- Read Address
 
@@ -48,31 +48,31 @@ readOf s multiple left crc deleted =
 unfoldable pub addressBegun : Bool → ℕ → ℕ → Activity
 addressBegun mfm pulses b = cond (eqb b 0xFE) (Address 0 (markCrc mfm 0xFE) 0) (Hunt pulses 0)
 
-unfoldable pub huntedOf : Seen → ℕ → Passed → Act
-huntedOf s pulses (Gap run) = pass s (Hunt pulses run) Nothing
-huntedOf s pulses (Mark b) = pass s (addressBegun (s .mfm) pulses b) Nothing
+unfoldable pub huntStep : Seen → ℕ → Passed → Act
+huntStep s pulses (Gap run) = pass s (Hunt pulses run) Nothing
+huntStep s pulses (Mark b) = pass s (addressBegun (s .mfm) pulses b) Nothing
 
 -- "Fifth pulse up to the mark byte: bit 4, end."
-unfoldable pub huntOf : Seen → ℕ → ℕ → Act
-huntOf s seen run =
-    cond (leb 5 (pulsesOf seen (s .index))) (pass s Idle NotFound)
-    (huntedOf s (pulsesOf seen (s .index)) (passedOf (s .mfm) (s .cell) run))
+unfoldable pub huntCell : Seen → ℕ → ℕ → Act
+huntCell s seen run =
+    cond (leb 5 (pulsesSeen seen (s .index))) (pass s Idle NotFound)
+    (huntStep s (pulsesSeen seen (s .index)) (markStep (s .mfm) (s .cell) run))
 
 -- the first of the six is the track
-unfoldable pub trackIn : ℕ → ℕ → ℕ → ℕ
-trackIn passed b track = cond (eqb passed 0) b track
+unfoldable pub addressTrack : ℕ → ℕ → ℕ → ℕ
+addressTrack passed b track = cond (eqb passed 0) b track
 
 -- "The six cells after the next ID mark go to DR as data bytes do; at the sixth, track to SR, bit 3 if bad, end."
-unfoldable pub addressOf : Seen → ℕ → ℕ → ℕ → Act
-addressOf s passed crc track =
+unfoldable pub addressCell : Seen → ℕ → ℕ → ℕ → Act
+addressCell s passed crc track =
     cond (leb 5 passed)
     (pass s Idle (Named (byteOf (s .cell)) track (not (eqb (crcByte crc (byteOf (s .cell))) 0))))
     (pass s
-    (Address (passed + 1) (crcByte crc (byteOf (s .cell))) (trackIn passed (byteOf (s .cell)) track))
+    (Address (passed + 1) (crcByte crc (byteOf (s .cell))) (addressTrack passed (byteOf (s .cell)) track))
     (Deliver (byteOf (s .cell))))
 
 -- ---- Read Track
 
 -- "Cells 0 to L - 1 from the first index pulse, as data bytes go; the last ends it."
-unfoldable pub trackReadOf : Seen → Act
-trackReadOf s = pass s (cond (s .last) Idle TrackRead) (Deliver (byteOf (s .cell)))
+unfoldable pub trackCell : Seen → Act
+trackCell s = pass s (cond (s .last) Idle TrackRead) (Deliver (byteOf (s .cell)))

@@ -1,6 +1,6 @@
-// Read Sector behind its ID, Read Address and Read Track.
+// Read Sector after its ID, Read Address and Read Track.
 ghost use mathlib.Core.Path.{_≡_};
-ghost use Rattle.reading.specs.Reading.{missedOf, metOf, awaitedOf, readOf, addressBegun, huntedOf, huntOf, trackIn, addressOf, trackReadOf};
+ghost use Rattle.reading.specs.Reading.{windowMissed, windowStep, windowCell, dataCell, addressBegun, huntStep, huntCell, addressTrack, addressCell, trackCell};
 use activity::Act;
 use activity::Activity;
 use activity::Deed;
@@ -11,7 +11,7 @@ use search::again;
 use search::pulses;
 
 fn missed(s: Seen, left: u16, passed: u8, run: u8) -> Act
-    ensures { λ r. ⌜ r ≡ missedOf s left passed run ⌝ }
+    ensures { λ r. ⌜ r ≡ windowMissed s left passed run ⌝ }
 {
     if passed as u16 + 1 < scan::window(s.mfm) as u16 {
         return Act {
@@ -28,7 +28,7 @@ fn missed(s: Seen, left: u16, passed: u8, run: u8) -> Act
 }
 
 fn met(s: Seen, left: u16, passed: u8, sought: Sought) -> Act
-    ensures { λ r. ⌜ r ≡ metOf s left passed sought ⌝ }
+    ensures { λ r. ⌜ r ≡ windowStep s left passed sought ⌝ }
 {
     match sought {
         Sought::On(run) => missed(s, left, passed, run),
@@ -44,16 +44,16 @@ fn met(s: Seen, left: u16, passed: u8, sought: Sought) -> Act
     }
 }
 
-// A cell behind the ID of a Read Sector.
+// A cell after the ID of a Read Sector.
 pub fn window(s: Seen, left: u16, passed: u8, run: u8) -> Act
-    ensures { λ r. ⌜ r ≡ awaitedOf s left passed run ⌝ }
+    ensures { λ r. ⌜ r ≡ windowCell s left passed run ⌝ }
 {
     met(s, left, passed, scan::seek_data(s.mfm, s.cell, run))
 }
 
 // A cell of a data field.
 pub fn read(s: Seen, multiple: bool, left: u16, crc: u16, deleted: bool) -> Act
-    ensures { λ r. ⌜ r ≡ readOf s multiple left crc deleted ⌝ }
+    ensures { λ r. ⌜ r ≡ dataCell s multiple left crc deleted ⌝ }
 {
     let byte = (s.cell % 256) as u8;
     let next = crc::step(crc, byte);
@@ -89,7 +89,7 @@ fn begin_address(mfm: bool, pulses: u8, byte: u8) -> Activity
 }
 
 fn hunted(s: Seen, pulses: u8, passed: Passed) -> Act
-    ensures { λ r. ⌜ r ≡ huntedOf s pulses passed ⌝ }
+    ensures { λ r. ⌜ r ≡ huntStep s pulses passed ⌝ }
 {
     match passed {
         Passed::Gap(run) => Act {
@@ -107,7 +107,7 @@ fn hunted(s: Seen, pulses: u8, passed: Passed) -> Act
 
 // Read Address before its mark.
 pub fn hunt(s: Seen, seen: u8, run: u8) -> Act
-    ensures { λ r. ⌜ r ≡ huntOf s seen run ⌝ }
+    ensures { λ r. ⌜ r ≡ huntCell s seen run ⌝ }
 {
     let count = pulses(seen, s.index);
     if 5 <= count {
@@ -121,14 +121,14 @@ pub fn hunt(s: Seen, seen: u8, run: u8) -> Act
 }
 
 fn track_of(passed: u8, byte: u8, track: u8) -> u8
-    ensures { λ r. ⌜ r ≡ trackIn passed byte track ⌝ }
+    ensures { λ r. ⌜ r ≡ addressTrack passed byte track ⌝ }
 {
     if passed == 0 { byte } else { track }
 }
 
-// A cell behind the mark of a Read Address.
+// A cell after the mark of a Read Address.
 pub fn address(s: Seen, passed: u8, crc: u16, track: u8) -> Act
-    ensures { λ r. ⌜ r ≡ addressOf s passed crc track ⌝ }
+    ensures { λ r. ⌜ r ≡ addressCell s passed crc track ⌝ }
 {
     let byte = (s.cell % 256) as u8;
     let next = crc::step(crc, byte);
@@ -148,7 +148,7 @@ pub fn address(s: Seen, passed: u8, crc: u16, track: u8) -> Act
 
 // A cell of a Read Track.
 pub fn track_read(s: Seen) -> Act
-    ensures { λ r. ⌜ r ≡ trackReadOf s ⌝ }
+    ensures { λ r. ⌜ r ≡ trackCell s ⌝ }
 {
     let byte = (s.cell % 256) as u8;
     if s.last {

@@ -10,49 +10,46 @@ use lib.Dec.{leb, ltb, eqb}
 use lib.ListN.{length}
 use borrow.Author.Tests.{leb-true, leb-false, ltb-true, ltb-false, eqb-true, eqb-false}
 use Rattle.common.proofs.Cases.{by-cond, never, both, all}
-use Rattle.order.specs.declared.Decoded.{Decoded}
+use Rattle.command.specs.declared.Decoded.{Decoded}
 use Rattle.activity.specs.Limits.{busyIn}
-use Rattle.chip.specs.declared.Lines.{Lines}
+use Rattle.registers.specs.declared.Lines.{Lines}
 use Rattle.scan.specs.Rows.{lengthWithin}
-use Rattle.chip.specs.Registers.{readRefusal, guarded, loadRefusal}
+use Rattle.registers.specs.Registers.{readRefusal, guarded, loadRefusal}
 use Rattle.wd.specs.declared.Machine.{Machine}
-use Rattle.wd.specs.Machines.{validOf, poweredOf}
-use Rattle.wd.specs.Reads.{readOf}
-use Rattle.wd.specs.Loads.{commandedOf, loadedOf}
-use Rattle.wd.specs.Rows.{rowRefusal, under, refusedAt, doneBy, passedOf, rowOf, emptyRun, Run, runFrom}
+use Rattle.wd.specs.Machines.{validOf, powerOn}
+use Rattle.wd.specs.Reads.{readRegister}
+use Rattle.wd.specs.Loads.{commandAnswer, loadRegister}
+use Rattle.wd.specs.Rows.{rowRefusal, under, refusedAt, doneBy, byteTime, byteTimeRow, emptyRun, Run, runFrom}
 use Rattle.wd.proofs.Valid.{row-open}
 use Rattle.wd.proofs.Runs.{at}
-use Rattle.growth.specs.Growth.{Grown}
-use Rattle.growth.specs.ByteTimes.{machineAfter, rowAfter, numberAfter, signals, Stops, by-limit, by-wire, by-cell, Makes, Counts}
-use Rattle.growth.proofs.Valid.{Valid, grown-valid}
-use Rattle.growth.proofs.AsGiven.{byte-time-machine, byte-time-row, load-machine, read-machine-and-byte}
-use Rattle.growth.proofs.StatusBits.{status-busy}
-use Rattle.growth.proofs.Runs.{run-makes, run-counts}
-use Rattle.safe.specs.Demand1.{OutOfRange, Invalid, NotItsLength, AboveFlagged, NoSuchRegister, WhileBusy, IsCommand}
-use Rattle.safe.specs.Demand1.{NoCommand, ComesTo, AtPowerOn, power-on-1, AtLoad, load-2, load-5, load-6, load-7}
-use Rattle.safe.specs.Demand1.{AtRead, read-2, read-5, AtByteTime, byte-time-2, byte-time-3, byte-time-4, AtRun, run-2}
-use Rattle.safe.specs.Demand1.{run-3, run-4, Given, SafePowerOn, SafeLoad, SafeRead, SafeByteTime, SafeRun}
-use Rattle.safe.proofs.Refusals.{lowest, nothing, between, outside, invalid, valid, guards, is-guarded, Takes, takes}
-use Rattle.safe.proofs.Refusals.{given-row, refuses, named}
+use Rattle.reachable.specs.Growth.{Grown}
+use Rattle.reachable.specs.ByteTimes.{machineAfter, rowAfter, numberAfter, signals, Stops, by-limit, by-wire, by-cell, Makes, Counts}
+use Rattle.reachable.proofs.Valid.{Valid, grown-valid}
+use Rattle.reachable.proofs.AsGiven.{byte-time-machine, byte-time-row, load-machine, read-machine-and-byte}
+use Rattle.reachable.proofs.StatusBits.{status-busy}
+use Rattle.reachable.proofs.Runs.{run-makes, run-counts}
+use Rattle.safe.specs.Demand1.{OutOfRange, Invalid, NotItsLength, AboveFlagged, NoSuchRegister, WhileBusy, IsCommand, NoCommand, ComesTo, AtPowerOn, power-on-1, AtLoad, load-2, load-5, load-6, load-7, AtRead, read-2, read-5, AtByteTime, byte-time-2, byte-time-3, byte-time-4, AtRun, run-2, run-3, run-4, Given, SafePowerOn, SafeLoad, SafeRead, SafeByteTime, SafeRun}
+use Rattle.safe.proofs.Refusals.{lowest, nothing, in-range, out-of-range, invalid, valid, guards, is-guarded, Takes, takes, given-row, refuses, named}
 
 -- ---- power-on
 
 power-on-rows : {size : ℕ} (P : ℕ → Type 0) → (OutOfRange size → P 1) → (j : ℕ) → AtPowerOn size j → P j
 power-on-rows P one j (power-on-1 out) = one out
 
-pub power-on-safe : (size : ℕ) (mfm : Bool) → SafePowerOn size (poweredOf size mfm)
-unfolding poweredOf lengthWithin
+pub power-on-safe : (size : ℕ) (mfm : Bool) → SafePowerOn size (powerOn size mfm)
+unfolding powerOn lengthWithin
 power-on-safe size mfm =
     by-cond (SafePowerOn size) (lengthWithin size)
     (λ e.
     record {
-      given = nothing (AtPowerOn size) (power-on-rows (λ j. ⊥) (λ out. out (between e)));
+      given = nothing (AtPowerOn size) (power-on-rows (λ j. ⊥) (in-range size e));
       refused = λ h. absurd (h refl);
     })
     (λ e.
     record {
       given =
-          lowest (AtPowerOn size) 1 (omega arith) (power-on-1 (outside e)) (power-on-rows (λ j. 1 ≤ j) (λ out. omega arith));
+          lowest (AtPowerOn size) 1 (omega arith) (power-on-1 (out-of-range size e))
+          (power-on-rows (λ j. 1 ≤ j) (λ out. omega arith));
       refused = λ h. refl;
     })
 
@@ -74,15 +71,15 @@ module _ (m : Machine) (l : Lines) (number b : ℕ) where
 
   commanded : {d : Decoded} → Takes (IsCommand b) d → number ≡ 0
       → (Invalid m → ⊥) → (NoSuchRegister number → ⊥) → (WhileBusy m l number b → ⊥)
-      → Given (AtLoad m l number b) (commandedOf m l b d .number)
-  unfolding commandedOf
+      → Given (AtLoad m l number b) (commandAnswer m l b d .number)
+  unfolding commandAnswer
   commanded (takes c is) z two five six = nothing (AtLoad m l number b) (load-rows (λ j. ⊥) two five six (λ e none. none is))
   commanded (refuses none) z two five six =
       lowest (AtLoad m l number b) 7 (omega arith) (load-7 z none)
       (load-rows (λ j. 7 ≤ j) (λ c. absurd (two c)) (λ c. absurd (five c)) (λ c. absurd (six c)) (λ z c. omega arith))
 
-  load-given : Given (AtLoad m l number b) (loadedOf m l number b .number)
-  unfolding loadedOf loadRefusal
+  load-given : Given (AtLoad m l number b) (loadRegister m l number b .number)
+  unfolding loadRegister loadRefusal
   load-given =
       by (validOf m) refl (leb number 3) refl (busyIn (m .activity) && guarded number b) refl (eqb number 0) refl
     where
@@ -101,7 +98,7 @@ module _ (m : Machine) (l : Lines) (number b : ℕ) where
 
       by : (fits : Bool) → validOf m ≡ fits → (low : Bool) → leb number 3 ≡ low
           → (held : Bool) → (busyIn (m .activity) && guarded number b) ≡ held → (first : Bool) → eqb number 0 ≡ first
-          → Given (AtLoad m l number b) (loadedOf m l number b .number)
+          → Given (AtLoad m l number b) (loadRegister m l number b .number)
       by false v low r held g first z =
           rw v
           (lowest (AtLoad m l number b) 2 (omega arith) (load-2 (invalid m v))
@@ -122,7 +119,7 @@ module _ (m : Machine) (l : Lines) (number b : ℕ) where
           (nothing (AtLoad m l number b)
           (load-rows (λ j. ⊥) (valid m v) (λ c. some c r) (free v g) (λ e c. eqb-false number 0 z e)))
 
-  pub load-safe : SafeLoad m l number b (loadedOf m l number b)
+  pub load-safe : SafeLoad m l number b (loadRegister m l number b)
   load-safe = record { given = load-given; refused = load-machine m l number b }
 
 module _ (m : Machine) (l : Lines) (number : ℕ) where
@@ -130,12 +127,12 @@ module _ (m : Machine) (l : Lines) (number : ℕ) where
   read-rows P two five j (read-2 c) = two c
   read-rows P two five j (read-5 c) = five c
 
-  read-given : Given (AtRead m number) (readOf m l number .number)
-  unfolding readOf readRefusal
+  read-given : Given (AtRead m number) (readRegister m l number .number)
+  unfolding readRegister readRefusal
   read-given = by (validOf m) refl (leb number 3) refl
     where
       by : (fits : Bool) → validOf m ≡ fits → (low : Bool) → leb number 3 ≡ low
-          → Given (AtRead m number) (readOf m l number .number)
+          → Given (AtRead m number) (readRegister m l number .number)
       by false v low r =
           rw v
           (lowest (AtRead m number) 2 (omega arith) (read-2 (invalid m v))
@@ -149,7 +146,7 @@ module _ (m : Machine) (l : Lines) (number : ℕ) where
           (nothing (AtRead m number)
           (read-rows (λ j. ⊥) (valid m v) (λ c. let h = leb-true number 3 r in omega arith)))
 
-  pub read-safe : SafeRead m number (readOf m l number)
+  pub read-safe : SafeRead m number (readRegister m l number)
   read-safe = record { given = read-given; refused = read-machine-and-byte m l number }
 
 -- ---- byte times
@@ -166,13 +163,13 @@ module _ (m : Machine) (l : Lines) (row : List ℕ) where
   byte-time-rows P two three four j (byte-time-3 c) = three c
   byte-time-rows P two three four j (byte-time-4 c) = four c
 
-  byte-time-given : Given (AtByteTime m row) (passedOf m l row .number)
-  unfolding passedOf rowRefusal refusedAt doneBy
+  byte-time-given : Given (AtByteTime m row) (byteTime m l row .number)
+  unfolding byteTime rowRefusal refusedAt doneBy
   byte-time-given = by (validOf m) refl (eqb (length row) (m .ring .length)) refl (ltb 511 (under m row)) refl
     where
       by : (fits : Bool) → validOf m ≡ fits → (same : Bool) → eqb (length row) (m .ring .length) ≡ same
           → (above : Bool) → ltb 511 (under m row) ≡ above
-          → Given (AtByteTime m row) (passedOf m l row .number)
+          → Given (AtByteTime m row) (byteTime m l row .number)
       by false v same e above f =
           rw v
           (lowest (AtByteTime m row) 2 (omega arith) (byte-time-2 (invalid m v))
@@ -191,7 +188,7 @@ module _ (m : Machine) (l : Lines) (row : List ℕ) where
           (byte-time-rows (λ j. ⊥) (valid m v) (λ c. c (eqb-true _ _ e))
           (λ c. let h = ltb-false 511 (under m row) f in omega arith)))
 
-  pub byte-time-safe : SafeByteTime m row (passedOf m l row) (rowOf m l row)
+  pub byte-time-safe : SafeByteTime m row (byteTime m l row) (byteTimeRow m l row)
   byte-time-safe =
       record {
         given = byte-time-given;
@@ -199,12 +196,12 @@ module _ (m : Machine) (l : Lines) (row : List ℕ) where
       }
 
   -- 4 is given for the cell
-  four-above : passedOf m l row .number ≡ 4 → AboveFlagged m row
+  four-above : byteTime m l row .number ≡ 4 → AboveFlagged m row
   four-above e =
       byte-time-rows (λ j. j ≡ 4 → AboveFlagged m row) (λ c z. absurd (omega arith)) (λ c z. absurd (omega arith)) (λ c z. c)
       4 (given-row byte-time-given 4 (omega arith) e) refl
 
-  done-below : passedOf m l row .number ≡ 0 → AboveFlagged m row → ⊥
+  done-below : byteTime m l row .number ≡ 0 → AboveFlagged m row → ⊥
   done-below e above = byte-time-given .done .0 e 4 (byte-time-4 above)
 
 -- ---- runs
@@ -257,7 +254,7 @@ module _ (m : Machine) (l : Lines) (limit : ℕ) (row : List ℕ) where
         four-above (machineAfter n m l row) l (rowAfter n m l row) e,
       )
 
-      -- DRQ or INTRQ is off behind each byte time before the one that a run comes to
+      -- DRQ or INTRQ is off after each byte time before the one that a run comes to
       unstopped : (j k : ℕ) → 0 < j → j ≤ k → ComesTo m l limit row k → signals (machineAfter j m l row) ≡ false
       unstopped zero k some low comes = absurd (omega arith)
       unstopped (suc j) k some low comes = comes .quiet j (omega arith)

@@ -10,16 +10,16 @@ use lib.Dec.{leb, ltb, eqb}
 use lib.ListN.{length, getD}
 use borrow.Author.Tests.{leb-true, leb-false, ltb-true, ltb-false, eqb-true, eqb-false}
 use Rattle.common.proofs.Cases.{by-cond, never, both, all}
-use Rattle.codes.specs.Bits.{bitOf}
+use Rattle.common.specs.Bits.{bitOf}
 use Rattle.picture.specs.declared.Kind.{Kind}
 use Rattle.picture.specs.declared.Kind.the-variants.{Fm, Mfm}
-use Rattle.picture.specs.Kinds.{kindOf, lengthOf, bodyOf, flagBytes}
-use Rattle.picture.specs.Cells.{flagIn}
-use Rattle.picture.specs.Reader.{paddingClear, soundOf, judgedFor, judgedOf, verdictOf, refusedBy, takenFrom, answerOf, readOf, roomOf}
-use Rattle.picture.proofs.Padding.{padding-clear, clear-padding}
+use Rattle.picture.specs.Kinds.{kindOf, shapeOf, lengthOf}
+use Rattle.picture.specs.Layout.{flagBytes, bodyLength, flagIn, paddingClear}
+use Rattle.picture.specs.Reader.{soundOf, judgedFor, judgedOf, verdictOf, refusedBy, takenFrom, answerOf, readerAnswer, readerRoom}
+use Rattle.picture.proofs.Padding.{spare-clear, clear-spare}
 use Rattle.picture.proofs.Laws.{refused-leaves}
 use Rattle.safe.specs.Demand1.{InTurn}
-use Rattle.safe.specs.Pictures.{IsKind, fm, mfm, kindByte, sideByte, flagByte, flagBit, PaddingSet, readerOrder, Empty, NoKind, EndsEarly, NoRoom, Unsound, AtReader, empty, no-kind, ends-early, no-room, unsound, SafePicture}
+use Rattle.safe.specs.Pictures.{Form, flagsLast, IsKind, fm, mfm, kindByte, sideByte, flagBit, PaddingSet, readerOrder, Empty, NoKind, EndsEarly, NoRoom, Unsound, AtReader, empty, no-kind, ends-early, no-room, unsound, SafePicture}
 use Rattle.safe.proofs.Refusals.{first, nothing}
 
 -- ---- padding
@@ -53,41 +53,52 @@ flag-set : (last i : ℕ) → bitOf last (7 - i % 8) ≡ true → flagIn last i 
 unfolding bitOf flagIn
 flag-set last i e = eqb-true _ _ e
 
-module _ (bytes : List ℕ) (L body : ℕ) (whole : body ≡ 2 + L + flagBytes L) where
+-- what the definitions say of a kind
+abbrev formOf : Kind → Form
+formOf k = flagsLast (lengthOf k) (bodyLength k)
+
+module _ (bytes : List ℕ) (k : Kind) where
   -- the byte of a padding bit is the picture's last
-  last-byte : (i : ℕ) → L ≤ i → flagByte L i < 1 + body → flagByte L i ≡ body
-  last-byte i behind inside = omega arith
+  last-byte : (i : ℕ) → lengthOf k ≤ i → formOf k .flagByte i < 1 + bodyLength k → formOf k .flagByte i ≡ bodyLength k
+  unfolding bodyLength
+  last-byte i beyond inside = omega arith
 
-  padding-set : paddingClear L (getD bytes body 0) ≡ false → PaddingSet bytes L body
-  padding-set e = ⊎-elim found clear (search (flagBit bytes L) L (flagBytes L * 8 - L))
+  -- how many of them there are
+  abbrev spare : ℕ
+  spare = flagBytes (lengthOf k) * 8 - lengthOf k
+
+  padding-set : paddingClear k bytes ≡ false → PaddingSet bytes (formOf k)
+  unfolding bodyLength
+  padding-set e = ⊎-elim found clear (search (flagBit bytes (formOf k)) (lengthOf k) spare)
     where
-      found : SetIn (flagBit bytes L) L (flagBytes L * 8 - L) → PaddingSet bytes L body
-      found (i, low, high, set) = record { bit = i; behind = low; inside = omega arith; set = set }
+      found : SetIn (flagBit bytes (formOf k)) (lengthOf k) spare → PaddingSet bytes (formOf k)
+      found (i, low, high, set) = record { bit = i; beyond = low; inside = omega arith; set = set }
 
-      clear : ClearIn (flagBit bytes L) L (flagBytes L * 8 - L) → PaddingSet bytes L body
+      clear : ClearIn (flagBit bytes (formOf k)) (lengthOf k) spare → PaddingSet bytes (formOf k)
       clear none =
           let h =
-          clear-padding L (getD bytes body 0)
+          clear-spare (lengthOf k) (getD bytes (bodyLength k) 0)
           (λ i low high.
-          flag-clear (getD bytes body 0) i
+          flag-clear (getD bytes (bodyLength k) 0) i
           (rw (last-byte i low (omega arith)) at (none i low (omega arith)))) in
           never (cc)
 
-  padding-unset : paddingClear L (getD bytes body 0) ≡ true → PaddingSet bytes L body → ⊥
+  padding-unset : paddingClear k bytes ≡ true → PaddingSet bytes (formOf k) → ⊥
+  unfolding bodyLength
   padding-unset e p =
-      let at = last-byte (p .bit) (p .behind) (p .inside) in
-      let low = p .behind in
+      let at = last-byte (p .bit) (p .beyond) (p .inside) in
+      let low = p .beyond in
       let high = p .inside in
-      let none = padding-clear L (getD bytes body 0) e (p .bit) low (omega arith) in
-      let one = flag-set (getD bytes body 0) (p .bit) (rw at at (p .set)) in
+      let none = spare-clear (lengthOf k) (getD bytes (bodyLength k) 0) e (p .bit) low (omega arith) in
+      let one = flag-set (getD bytes (bodyLength k) 0) (p .bit) (rw at at (p .set)) in
       absurd (omega arith)
 
 -- ---- kinds
 
 -- a byte is of one kind
-same-kind : {b L body L′ body′ : ℕ} → IsKind b L body → IsKind b L′ body′ → (L ≡ L′) × (body ≡ body′)
-same-kind (fm e) (fm f) = (refl, refl)
-same-kind (mfm e) (mfm f) = (refl, refl)
+same-kind : {b : ℕ} {form form′ : Form} → IsKind b form → IsKind b form′ → form ≡ form′
+same-kind (fm e) (fm f) = refl
+same-kind (mfm e) (mfm f) = refl
 same-kind (fm e) (mfm f) = absurd (omega arith)
 same-kind (mfm e) (fm f) = absurd (omega arith)
 
@@ -102,85 +113,79 @@ module _ (bytes : List ℕ) (room : ℕ) where
   reader-rows : (P : ℕ → Type 0)
       → (Empty bytes → P 0)
       → (NoKind bytes → P 1)
-      → ((L body : ℕ) → IsKind (kindByte bytes) L body → EndsEarly bytes body → P 2)
-      → ((L body : ℕ) → IsKind (kindByte bytes) L body → NoRoom room L → P 3)
-      → ((L body : ℕ) → IsKind (kindByte bytes) L body → Unsound bytes L body → P 4)
+      → ((form : Form) → IsKind (kindByte bytes) form → EndsEarly bytes form → P 2)
+      → ((form : Form) → IsKind (kindByte bytes) form → NoRoom room form → P 3)
+      → ((form : Form) → IsKind (kindByte bytes) form → Unsound bytes form → P 4)
       → (t : ℕ)
       → AtReader bytes room t
       → P t
   reader-rows P a b c d e t (empty h) = a h
   reader-rows P a b c d e t (no-kind h) = b h
-  reader-rows P a b c d e t (ends-early L body k h) = c L body k h
-  reader-rows P a b c d e t (no-room L body k h) = d L body k h
-  reader-rows P a b c d e t (unsound L body k h) = e L body k h
+  reader-rows P a b c d e t (ends-early form k h) = c form k h
+  reader-rows P a b c d e t (no-room form k h) = d form k h
+  reader-rows P a b c d e t (unsound form k h) = e form k h
 
-  -- the turns behind that of the kind, which is known
-  module _ (k : Kind) (is : IsKind (kindByte bytes) (lengthOf k) (bodyOf k)) (some : Empty bytes → ⊥) where
-    whole : bodyOf k ≡ 2 + lengthOf k + flagBytes (lengthOf k)
-    unfolding bodyOf
-    whole = refl
-
+  -- the turns after that of the kind, which is known
+  module _ (k : Kind) (is : IsKind (kindByte bytes) (formOf k)) (some : Empty bytes → ⊥) where
     known : NoKind bytes → ⊥
     known (not-fm, not-mfm) = by is
       where
-        by : {L body : ℕ} → IsKind (kindByte bytes) L body → ⊥
+        by : {form : Form} → IsKind (kindByte bytes) form → ⊥
         by (fm e) = not-fm e
         by (mfm e) = not-mfm e
 
-    long : bodyOf k < length bytes → (L body : ℕ) → IsKind (kindByte bytes) L body → EndsEarly bytes body → ⊥
-    long h L body other short = let same = same-kind is other .1 in absurd (omega arith)
+    long : bodyLength k < length bytes → (form : Form) → IsKind (kindByte bytes) form → EndsEarly bytes form → ⊥
+    long h form other short = let early : EndsEarly bytes (formOf k) = rw (same-kind other is) at short in omega arith
 
-    wide : lengthOf k ≤ room → (L body : ℕ) → IsKind (kindByte bytes) L body → NoRoom room L → ⊥
-    wide h L body other narrow = let same = same-kind is other .0 in absurd (omega arith)
+    wide : lengthOf k ≤ room → (form : Form) → IsKind (kindByte bytes) form → NoRoom room form → ⊥
+    wide h form other narrow = let none : NoRoom room (formOf k) = rw (same-kind other is) at narrow in omega arith
 
-    clean : soundOf k bytes ≡ true → (L body : ℕ) → IsKind (kindByte bytes) L body → Unsound bytes L body → ⊥
+    clean : soundOf k bytes ≡ true → (form : Form) → IsKind (kindByte bytes) form → Unsound bytes form → ⊥
     unfolding soundOf
-    clean e L body other =
-        let h = both (leb (sideByte bytes) 1) (paddingClear (lengthOf k) (getD bytes (bodyOf k) 0)) e in
+    clean e form other =
+        let h = both (leb (sideByte bytes) 1) (paddingClear k bytes) e in
         let low = leb-true (sideByte bytes) 1 (h .0) in
-        let same = same-kind other is in
         ⊎-elim (λ (high : 1 < sideByte bytes). absurd (omega arith))
-        (λ (set : PaddingSet bytes L body).
-        padding-unset bytes (lengthOf k) (bodyOf k) whole (h .1) (rw (same .0, same .1) at set))
+        (λ (set : PaddingSet bytes form). padding-unset bytes k (h .1) (rw (same-kind other is) at set))
 
-    unclean : soundOf k bytes ≡ false → Unsound bytes (lengthOf k) (bodyOf k)
+    unclean : soundOf k bytes ≡ false → Unsound bytes (formOf k)
     unfolding soundOf
-    unclean e = by (leb (sideByte bytes) 1) refl (paddingClear (lengthOf k) (getD bytes (bodyOf k) 0)) refl
+    unclean e = by (leb (sideByte bytes) 1) refl (paddingClear k bytes) refl
       where
-        by : (b : Bool) → leb (sideByte bytes) 1 ≡ b → (c : Bool) → paddingClear (lengthOf k) (getD bytes (bodyOf k) 0) ≡ c
-            → Unsound bytes (lengthOf k) (bodyOf k)
+        by : (b : Bool) → leb (sideByte bytes) 1 ≡ b → (c : Bool) → paddingClear k bytes ≡ c
+            → Unsound bytes (formOf k)
         by false f c g = inl (leb-false _ _ f)
-        by true f false g = inr (padding-set bytes (lengthOf k) (bodyOf k) whole g)
+        by true f false g = inr (padding-set bytes k g)
         by true f true g = let h = all f g in never (cc)
 
     kind-given : Told (answerOf bytes (judgedFor bytes room k) .number)
     unfolding answerOf judgedFor refusedBy takenFrom
     kind-given =
-        by-cond (λ v. Told (answerOf bytes v .number)) (leb (length bytes) (bodyOf k))
+        by-cond (λ v. Told (answerOf bytes v .number)) (leb (length bytes) (bodyLength k))
         (λ e.
-        let short = leb-true (length bytes) (bodyOf k) e in
-        turn 2 (omega arith) (ends-early (lengthOf k) (bodyOf k) is (omega arith))
-        (reader-rows (λ t. 2 ≤ t) (λ h. absurd (some h)) (λ h. absurd (known h)) (λ L body j h. omega arith)
-        (λ L body j h. omega arith) (λ L body j h. omega arith)))
+        let short = leb-true (length bytes) (bodyLength k) e in
+        turn 2 (omega arith) (ends-early (formOf k) is (omega arith))
+        (reader-rows (λ t. 2 ≤ t) (λ h. absurd (some h)) (λ h. absurd (known h)) (λ form j h. omega arith)
+        (λ form j h. omega arith) (λ form j h. omega arith)))
         (λ e.
-        let there = leb-false (length bytes) (bodyOf k) e in
+        let there = leb-false (length bytes) (bodyLength k) e in
         by-cond (λ v. Told (answerOf bytes v .number)) (ltb room (lengthOf k))
         (λ f.
-        turn 3 (omega arith) (no-room (lengthOf k) (bodyOf k) is (ltb-true room (lengthOf k) f))
+        turn 3 (omega arith) (no-room (formOf k) is (ltb-true room (lengthOf k) f))
         (reader-rows (λ t. 3 ≤ t) (λ h. absurd (some h)) (λ h. absurd (known h))
-        (λ L body j h. absurd (long there L body j h)) (λ L body j h. omega arith) (λ L body j h. omega arith)))
+        (λ form j h. absurd (long there form j h)) (λ form j h. omega arith) (λ form j h. omega arith)))
         (λ f.
         let fits = ltb-false room (lengthOf k) f in
         by-cond (λ v. Told (answerOf bytes v .number)) (soundOf k bytes)
         (λ g. nothing (AtReader bytes room) (reader-rows (λ t. ⊥) some known (long there) (wide fits) (clean g)))
         (λ g.
-        turn 4 (omega arith) (unsound (lengthOf k) (bodyOf k) is (unclean g))
+        turn 4 (omega arith) (unsound (formOf k) is (unclean g))
         (reader-rows (λ t. 4 ≤ t) (λ h. absurd (some h)) (λ h. absurd (known h))
-        (λ L body j h. absurd (long there L body j h)) (λ L body j h. absurd (wide fits L body j h))
-        (λ L body j h. omega arith)))))
+        (λ form j h. absurd (long there form j h)) (λ form j h. absurd (wide fits form j h))
+        (λ form j h. omega arith)))))
 
-  reader-given : Told (readOf bytes room .number)
-  unfolding readOf answerOf verdictOf judgedOf kindOf refusedBy lengthOf bodyOf
+  reader-given : Told (readerAnswer bytes room .number)
+  unfolding readerAnswer answerOf verdictOf judgedOf kindOf refusedBy shapeOf bodyLength
   reader-given =
       by-cond (λ v. Told (answerOf bytes v .number)) (eqb (length bytes) 0)
       (λ e. turn 0 (omega arith) (empty (eqb-true _ _ e)) (λ t asked. omega arith))
@@ -193,11 +198,11 @@ module _ (bytes : List ℕ) (room : ℕ) where
       (λ g. kind-given Mfm (mfm (eqb-true _ _ g)) some)
       (λ g.
       turn 1 (omega arith) (no-kind (eqb-false _ _ f, eqb-false _ _ g))
-      (reader-rows (λ t. 1 ≤ t) (λ h. absurd (some h)) (λ h. omega arith) (λ L body j h. omega arith)
-      (λ L body j h. omega arith) (λ L body j h. omega arith)))))
+      (reader-rows (λ t. 1 ≤ t) (λ h. absurd (some h)) (λ h. omega arith) (λ form j h. omega arith)
+      (λ form j h. omega arith) (λ form j h. omega arith)))))
 
 -- for every input
-pub picture-safe : (bytes room : List ℕ) → SafePicture bytes room (readOf bytes (length room)) (roomOf bytes room)
+pub picture-safe : (bytes room : List ℕ) → SafePicture bytes room (readerAnswer bytes (length room)) (readerRoom bytes room)
 unfolding refusedBy
 picture-safe bytes room =
     record {

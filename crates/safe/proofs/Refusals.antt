@@ -8,20 +8,21 @@ use native.Mathlib.Omega.{arith}
 use lib.Dec.{leb, ltb, eqb}
 use borrow.Author.Tests.{leb-true, ltb-true, ltb-false, eqb-true, eqb-false, le-leb, eq-eqb}
 use Rattle.common.proofs.Cases.{never, both, neither, all}
-use Rattle.order.specs.Commands.{within, decodedOf}
-use Rattle.order.specs.declared.Command.{Command}
-use Rattle.order.specs.declared.Command.the-variants.{Restore, Seek, Step, StepIn, StepOut, ReadSector, WriteSector}
-use Rattle.order.specs.declared.Command.the-variants.{ReadAddress, ReadTrack, WriteTrack, ForceInterrupt}
-use Rattle.order.specs.declared.Decoded.{Decoded}
-use Rattle.order.specs.declared.Decoded.the-variants as decoded
-use Rattle.chip.specs.Registers.{guarded}
+use Rattle.scan.specs.Rows.{lengthWithin}
+use Rattle.scan.proofs.Rows.{within-least, within-most, row-without}
+use Rattle.command.specs.Commands.{decodedOf, within}
+use Rattle.command.specs.declared.Command.{Command}
+use Rattle.command.specs.declared.Command.the-variants.{Restore, Seek, Step, StepIn, StepOut, ReadSector, WriteSector, ReadAddress, ReadTrack, WriteTrack, ForceInterrupt}
+use Rattle.command.specs.declared.Decoded.{Decoded}
+use Rattle.command.specs.declared.Decoded.the-variants as decoded
+use Rattle.registers.specs.Registers.{guarded}
 use Rattle.wd.specs.declared.Machine.{Machine}
 use Rattle.wd.specs.Machines.{validOf}
 use Rattle.wd.proofs.Valid.{Held}
-use Rattle.growth.specs.Limits.{EachCount, Within}
-use Rattle.growth.proofs.Valid.{Valid}
-use Rattle.growth.proofs.Within.{valid-exactly}
-use Rattle.safe.specs.Demand1.{Between, Invalid, position, range, count, Guarded, tr, sr, command, IsCommand, InTurn, Given}
+use Rattle.reachable.specs.Limits.{EachCount, Within}
+use Rattle.reachable.proofs.Valid.{Valid}
+use Rattle.reachable.proofs.Within.{valid-exactly}
+use Rattle.safe.specs.Demand1.{Between, OutOfRange, Invalid, position, range, count, Guarded, tr, sr, command, IsCommand, InTurn, Given}
 
 -- ---- in turn
 
@@ -69,18 +70,26 @@ inside (low, high) = all (le-leb _ _ low) (le-leb _ _ high)
 pub outside : {first last n : ℕ} → within first last n ≡ false → Between first last n → ⊥
 outside e b = let h = inside b in never (cc)
 
+-- 1: the range that the statements say is the one that the calls ask
+pub in-range : (size : ℕ) → lengthWithin size ≡ true → OutOfRange size → ⊥
+in-range size e out = out (within-least size e, within-most size e)
+
+pub out-of-range : (size : ℕ) → lengthWithin size ≡ false → OutOfRange size
+out-of-range size e (least, most) = row-without size e least most
+
 -- 2
 pub invalid : (m : Machine) → validOf m ≡ false → Invalid m
-invalid m e = by (ltb (m .ring .position) (m .ring .length)) refl (within 2048 6400 (m .ring .length)) refl
+invalid m e = by (ltb (m .ring .position) (m .ring .length)) refl (lengthWithin (m .ring .length)) refl
   where
-    by : (b : Bool) → ltb (m .ring .position) (m .ring .length) ≡ b → (c : Bool) → within 2048 6400 (m .ring .length) ≡ c
+    by : (b : Bool) → ltb (m .ring .position) (m .ring .length) ≡ b → (c : Bool) → lengthWithin (m .ring .length) ≡ c
         → Invalid m
     by false p c r = position (ltb-false _ _ p)
-    by true p false r = range (outside r)
+    by true p false r = range (out-of-range _ r)
     by true p true r =
-        let h = between r in
         count (λ each.
-        let v = valid-exactly m .1 (record { least = h .0; most = h .1; inside = ltb-true _ _ p }, each) in never (cc))
+        let held : Held (m .ring) = record { least = within-least _ r; most = within-most _ r; inside = ltb-true _ _ p } in
+        let v = valid-exactly m .1 (held, each) in
+        never (cc))
 
 pub valid : (m : Machine) → Valid m → Invalid m → ⊥
 valid m v = by (valid-exactly m .0 v)

@@ -13,21 +13,13 @@ use Rattle.common.proofs.Cases.{never, both}
 use Rattle.scan.specs.Rows.{lengthWithin}
 use Rattle.viewer.specs.declared.Place.{Place}
 use Rattle.viewer.specs.declared.Place.the-variants.{Zero, One, Refused}
-use Rattle.viewer.specs.Views.{cellsWithin, placeOf, viewOf, startOf, numberOf}
+use Rattle.viewer.specs.Views.{cellsWithin, placeOf, partCells, partStart, numberOf}
 use Rattle.viewer.proofs.Views.{Open, Case, wrong-length, wrong-cell, in-zero, in-one, nowhere, which, on-zero, on-one, on-none, lengths-refused, cells-refused, cells-within}
-use Rattle.safe.specs.Demand1.{Between, OutOfRange, Given}
+use Rattle.safe.specs.Demand1.{Given}
 use Rattle.safe.specs.Viewer.{WrongLength, HasAbove, AnyAbove, NoSuchSector, AtViewer, viewer-1, viewer-4, viewer-11, SafeView}
-use Rattle.safe.proofs.Refusals.{lowest, nothing, between, outside}
+use Rattle.safe.proofs.Refusals.{lowest, nothing, in-range, out-of-range}
 
 -- ---- the conditions, of one side
-
-range-in : (size : ℕ) → lengthWithin size ≡ true → Between 2048 6400 size
-unfolding lengthWithin
-range-in size e = between e
-
-range-out : (size : ℕ) → lengthWithin size ≡ false → OutOfRange size
-unfolding lengthWithin
-range-out size e = outside e
 
 none-above : (side : List ℕ) → cellsWithin side ≡ true → HasAbove side → ⊥
 none-above side e (i, low, high) = let h = cells-within side .0 e i low in absurd (omega arith)
@@ -65,16 +57,14 @@ module _ (s0 s1 : List ℕ) (mfm : Bool) (track sector : ℕ) where
   viewer-rows P one four eleven j (viewer-4 c) = four c
   viewer-rows P one four eleven j (viewer-11 c) = eleven c
 
-  in-range : (lengthWithin (length s0) && lengthWithin (length s1)) ≡ true → WrongLength s0 s1 → ⊥
-  in-range =
-      neither-fails (lengthWithin (length s0)) (lengthWithin (length s1)) (λ e out. out (range-in _ e))
-      (λ e out. out (range-in _ e))
+  in-lengths : (lengthWithin (length s0) && lengthWithin (length s1)) ≡ true → WrongLength s0 s1 → ⊥
+  in-lengths = neither-fails (lengthWithin (length s0)) (lengthWithin (length s1)) (in-range _) (in-range _)
 
   in-cells : (cellsWithin s0 && cellsWithin s1) ≡ true → AnyAbove s0 s1 → ⊥
   in-cells = neither-fails (cellsWithin s0) (cellsWithin s1) (none-above s0) (none-above s1)
 
   found : Open s0 s1 mfm track sector → (NoSuchSector s0 s1 mfm track sector → ⊥) → Given Row 0
-  found may some = nothing Row (viewer-rows (λ j. ⊥) (in-range (may .0)) (in-cells (may .1)) some)
+  found may some = nothing Row (viewer-rows (λ j. ⊥) (in-lengths (may .0)) (in-cells (may .1)) some)
 
   view-given : Given Row (numberOf (placeOf s0 s1 mfm track sector))
   view-given = by (which s0 s1 mfm track sector)
@@ -86,12 +76,12 @@ module _ (s0 s1 : List ℕ) (mfm : Bool) (track sector : ℕ) where
       by : Case s0 s1 mfm track sector → Given Row (numberOf (placeOf s0 s1 mfm track sector))
       by (wrong-length l) =
           told (Refused 1) (lengths-refused s0 s1 mfm track sector l)
-          (lowest Row 1 (omega arith) (viewer-1 (one-fails _ _ (range-out _) (range-out _) l))
+          (lowest Row 1 (omega arith) (viewer-1 (one-fails _ _ (out-of-range _) (out-of-range _) l))
           (viewer-rows (λ j. 1 ≤ j) (λ c. omega arith) (λ c. omega arith) (λ c. omega arith)))
       by (wrong-cell l k) =
           told (Refused 4) (cells-refused s0 s1 mfm track sector l k)
           (lowest Row 4 (omega arith) (viewer-4 (one-fails _ _ (some-above s0) (some-above s1) k))
-          (viewer-rows (λ j. 4 ≤ j) (λ c. absurd (in-range l c)) (λ c. omega arith) (λ c. omega arith)))
+          (viewer-rows (λ j. 4 ≤ j) (λ c. absurd (in-lengths l c)) (λ c. omega arith) (λ c. omega arith)))
       by (in-zero may from to a f) =
           told (Zero from to) (on-zero s0 s1 mfm track sector may from to a f)
           (found may (λ none. none (inl (a, from, to, f .is))))
@@ -102,13 +92,13 @@ module _ (s0 s1 : List ℕ) (mfm : Bool) (track sector : ℕ) where
           told (Refused 11) (on-none s0 s1 mfm track sector may none other)
           (lowest Row 11 (omega arith)
           (viewer-11 (⊎-elim (λ (a, from, to, s). none a from to s) (λ (a, from, to, s). other a from to s)))
-          (viewer-rows (λ j. 11 ≤ j) (λ c. absurd (in-range (may .0) c)) (λ c. absurd (in-cells (may .1) c))
+          (viewer-rows (λ j. 11 ≤ j) (λ c. absurd (in-lengths (may .0) c)) (λ c. absurd (in-cells (may .1) c))
           (λ c. omega arith)))
 
 -- what a refusal hands back
 refused-part : (p : Place) (s0 s1 : List ℕ) (p0 p1 : ℕ × ℕ) → (numberOf p ≡ 0 → ⊥)
-    → (viewOf p s0 s1 ≡ []) × (startOf p p0 p1 ≡ p0)
-unfolding viewOf startOf
+    → (partCells p s0 s1 ≡ []) × (partStart p p0 p1 ≡ p0)
+unfolding partCells partStart
 refused-part (Zero from to) s0 s1 p0 p1 h = absurd (h refl)
 refused-part (One from to) s0 s1 p0 p1 h = absurd (h refl)
 refused-part (Refused number) s0 s1 p0 p1 h = (refl, ap (λ (at : ℕ). (p0 .0, at)) (zero-add (p0 .1)))
@@ -116,7 +106,7 @@ refused-part (Refused number) s0 s1 p0 p1 h = (refl, ap (λ (at : ℕ). (p0 .0, 
 -- for every input
 pub view-safe : (s0 s1 : List ℕ) (p0 p1 : ℕ × ℕ) (mfm : Bool) (track sector : ℕ)
     → let place = placeOf s0 s1 mfm track sector in
-    SafeView s0 s1 p0 mfm track sector (numberOf place) (viewOf place s0 s1) (startOf place p0 p1)
+    SafeView s0 s1 p0 mfm track sector (numberOf place) (partCells place s0 s1) (partStart place p0 p1)
 view-safe s0 s1 p0 p1 mfm track sector =
     record {
       given = view-given s0 s1 mfm track sector;

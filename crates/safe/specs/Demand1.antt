@@ -6,18 +6,18 @@ use mathlib.Core.List.{List}
 use mathlib.Core.Logic.{_⊎_, _↔_}
 use Prim.Native.Nat.{ℕ, suc, _%_, _≤_, _<_}
 use lib.ListN.{length}
-use Rattle.codes.specs.Bits.{bitOf}
-use Rattle.chip.specs.declared.Lines.{Lines}
+use Rattle.common.specs.Bits.{bitOf}
+use Rattle.registers.specs.declared.Lines.{Lines}
 use Rattle.wd.specs.declared.Machine.{Machine}
 use Rattle.wd.specs.declared.Started.{Started}
 use Rattle.wd.specs.declared.Loaded.{Loaded}
 use Rattle.wd.specs.declared.Read.{Read}
 use Rattle.wd.specs.declared.Passed.{Passed}
-use Rattle.wd.specs.Machines.{poweredOf}
-use Rattle.wd.specs.Reads.{readOf}
+use Rattle.wd.specs.Machines.{powerOn}
+use Rattle.wd.specs.Reads.{readRegister}
 use Rattle.wd.specs.Rows.{under, Run}
-use Rattle.growth.specs.ByteTimes.{machineAfter, rowAfter, numberAfter, signals, Counts}
-use Rattle.growth.specs.Limits.{EachCount, Within}
+use Rattle.reachable.specs.ByteTimes.{machineAfter, rowAfter, numberAfter, signals, Counts}
+use Rattle.reachable.specs.Limits.{EachCount, Within}
 
 -- ---- the conditions
 
@@ -56,7 +56,7 @@ pub data Guarded (number b : ℕ) : Type 0 where
 
 -- ".. loaded while Busy": bit 0 of the status byte that a read hands back
 pub record WhileBusy (m : Machine) (l : Lines) (number b : ℕ) : Type 0 where
-  pub busy : bitOf (readOf m l 0 .byte) 0 ≡ true
+  pub busy : bitOf (readRegister m l 0 .byte) 0 ≡ true
   pub guarded : Guarded number b
 
 -- "00-0F Restore, 10-1F Seek, 20-3F Step, 40-5F Step-in, 60-7F Step-out, all Type I; even 80-9E Read Sector; A0-BF Write
@@ -129,7 +129,7 @@ Given Row number = InTurn (λ t. t) Row number
 -- "power-on FM machine of 2,048"
 pub record SafePowerOn (size : ℕ) (r : Started) : Type 0 where
   pub given : Given (AtPowerOn size) (r .number)
-  pub refused : (r .number ≡ 0 → ⊥) → r .machine ≡ poweredOf 2048 false .machine
+  pub refused : (r .number ≡ 0 → ⊥) → r .machine ≡ powerOn 2048 false .machine
 
 -- "as given"
 pub record SafeLoad (m : Machine) (l : Lines) (number b : ℕ) (r : Loaded) : Type 0 where

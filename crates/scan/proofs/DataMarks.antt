@@ -1,9 +1,10 @@
 -- The scanner for data marks says that one ends at a cell, and which, exactly when the 1 (FM) or 4 (MFM) cells that passed
 -- last, all since the scan began, are that one. Assumes nothing.
 use mathlib.Core.Path.{_≡_, refl, sym, ap, _∙_}
-use mathlib.Core.Bool.{Bool}
+use mathlib.Core.Bool.{Bool, true, false}
 use mathlib.Core.Logic.{_↔_}
-use Prim.Native.Nat.{ℕ, zero, suc}
+use Prim.Native.Nat.{ℕ, zero, suc, _≤_}
+use native.Mathlib.Omega.{arith}
 use lib.Dec.{eqb}
 use borrow.Author.Tests.{eqb-true}
 use Rattle.common.proofs.Cases.{by-cond, never}
@@ -12,10 +13,15 @@ use Rattle.scan.specs.declared.Passed.the-variants.{Gap, Mark}
 use Rattle.scan.specs.declared.DataMark.{DataMark}
 use Rattle.scan.specs.declared.DataMark.the-variants.{Fb, F8}
 use Rattle.scan.specs.declared.Sought.the-variants.{Met}
-use Rattle.scan.specs.Marks.{passedOf}
-use Rattle.scan.specs.DataMarks.{markByte, dataMarkOf, dataMarkIn, soughtOf}
+use Rattle.scan.specs.Marks.{markStep}
+use Rattle.scan.specs.DataMarks.{markByte, dataMarkOf, dataMarkIn, dataMarkStep, longestWindow, windowOf}
 use Rattle.scan.specs.Streams.{MarkEnds, runPast, runAfter, passedAt, soughtPast, soughtAfter, soughtAt}
 use Rattle.scan.proofs.Marks.{marks}
+
+pub window-most : (mfm : Bool) → windowOf mfm ≤ longestWindow
+unfolding windowOf
+window-most true = omega arith
+window-most false = omega arith
 
 -- a mark ends the row of flagged A1 cells, a data mark or any other
 past : (p : Passed) → soughtPast (dataMarkIn p) ≡ runPast p
@@ -26,10 +32,10 @@ past (Mark b) =
     (λ e. by-cond (λ s. soughtPast s ≡ 0) (eqb b 0xF8) (λ f. refl) (λ f. refl))
 
 pub after : (mfm : Bool) (cells : ℕ → ℕ) (n : ℕ) → soughtAfter mfm cells n ≡ runAfter mfm cells n
-unfolding soughtAfter runAfter soughtOf
+unfolding soughtAfter runAfter dataMarkStep
 after mfm cells zero = refl
 after mfm cells (suc n) =
-    ap (λ (run : ℕ). soughtPast (dataMarkIn (passedOf mfm (cells n) run))) (after mfm cells n)
+    ap (λ (run : ℕ). soughtPast (dataMarkIn (markStep mfm (cells n) run))) (after mfm cells n)
     ∙ past (passedAt mfm cells n)
 
 -- which byte it was
@@ -52,11 +58,11 @@ met F8 = refl
 pub data-marks :
     (mfm : Bool) (cells : ℕ → ℕ) (n : ℕ) (mark : DataMark)
     → (soughtAt mfm cells n ≡ Met mark) ↔ MarkEnds mfm cells n (markByte mark)
-unfolding soughtOf dataMarkIn
+unfolding dataMarkStep dataMarkIn
 data-marks mfm cells n mark = (there, back)
   where
     same : soughtAt mfm cells n ≡ dataMarkIn (passedAt mfm cells n)
-    same = ap (λ (run : ℕ). dataMarkIn (passedOf mfm (cells n) run)) (after mfm cells n)
+    same = ap (λ (run : ℕ). dataMarkIn (markStep mfm (cells n) run)) (after mfm cells n)
 
     by :
         (p : Passed)

@@ -1,4 +1,4 @@
--- What has passed of an ID behind its mark, and what the whole comes to. Assumes nothing.
+-- What has passed of an ID after its mark, and what the whole comes to. Assumes nothing.
 use mathlib.Core.Path.{_≡_, refl, sym, ap, ap₂, _∙_}
 use mathlib.Core.Bool.{Bool, true, false}
 use Prim.Native.Nat.{ℕ, zero, suc, _+_, _%_, _<_}
@@ -11,7 +11,7 @@ use Rattle.scan.specs.Marks.{byteOf, leadOf, markBytes, markCrc}
 use Rattle.scan.specs.Ids.{pushedOf, wholeOf}
 use Rattle.scan.specs.Streams.{MarkAt, behind, IdAt, idWidth, crcFrom, idFrom}
 
--- the first j of the six cells behind a mark FE, which stand from p on
+-- the first j of the six cells after a mark FE, which stand from p on
 unfoldable pub gathered : Bool → (ℕ → ℕ) → ℕ → ℕ → Part
 gathered mfm cells p zero = record { passed = 0; crc = markCrc mfm 0xFE; track = 0; side = 0; sector = 0; length = 0 }
 gathered mfm cells p (suc j) = pushedOf (gathered mfm cells p j) (byteOf (cells (p + j)))
@@ -30,7 +30,7 @@ mark-crc false cells a b (h, e) =
 mark-crc true cells a b (h, x, y, z, e) =
     simp (add-zero a, x, y, z, e) (ap (crcByte (crcByte (crcByte (crcByte preset 0xA1) 0xA1) 0xA1)) (omega arith))
 
--- the register is the one over the mark's cells and the j behind them
+-- the register is the one over the mark's cells and the j after them
 gathered-crc :
     (mfm : Bool) (cells : ℕ → ℕ) (a : ℕ)
     → MarkAt mfm cells a 0xFE

@@ -10,47 +10,47 @@ use Rattle.scan.specs.declared.Passed.the-variants.{Mark}
 use Rattle.scan.specs.declared.Part.{Part}
 use Rattle.scan.specs.declared.Scan.{Scan}
 use Rattle.scan.specs.declared.Scan.the-variants.{Gap, Field}
-use Rattle.scan.specs.Marks.{byteOf, unflagged, sync, leadOf, carriesMark, runOf, passedOf}
-use Rattle.scan.specs.Ids.{begunOf, addedOf, runIn, grownOf, lookedOf, heardOf}
+use Rattle.scan.specs.Marks.{byteOf, unflagged, sync, leadOf, carriesMark, syncRun, markStep}
+use Rattle.scan.specs.Ids.{idBegun, idByteStep, runIn, idCellStep, idMarkStep, idStep}
 use Rattle.scan.specs.Streams.{runPast, runAfter, scanPast, scanAfter}
 use Rattle.common.proofs.Cases.{by-cond, never}
 
-pub unflagged-run : (cell run : ℕ) → unflagged cell ≡ true → runOf cell run ≡ 0
-unfolding runOf
+pub unflagged-run : (cell run : ℕ) → unflagged cell ≡ true → syncRun cell run ≡ 0
+unfolding syncRun
 unflagged-run cell run h = simp (ne-eqb cell sync (omega (arith, ltb-true cell 256 h)))
 
-gap-run : (mfm : Bool) (cell before run : ℕ) → passedOf mfm cell before ≡ Passed.Gap run → runOf cell before ≡ run
-unfolding passedOf
+gap-run : (mfm : Bool) (cell before run : ℕ) → markStep mfm cell before ≡ Passed.Gap run → syncRun cell before ≡ run
+unfolding markStep
 gap-run mfm cell before run =
-    by-cond (λ p. p ≡ Passed.Gap run → runOf cell before ≡ run) (leb (leadOf mfm) before && carriesMark mfm cell)
+    by-cond (λ p. p ≡ Passed.Gap run → syncRun cell before ≡ run) (leb (leadOf mfm) before && carriesMark mfm cell)
     (λ e p. never (cc))
     (λ e p. cc)
 
-added-run : (p : Part) (b : ℕ) → runIn (scanPast (addedOf p b)) ≡ 0
-unfolding addedOf scanPast runIn
+added-run : (p : Part) (b : ℕ) → runIn (scanPast (idByteStep p b)) ≡ 0
+unfolding idByteStep scanPast runIn
 added-run p b = by-cond (λ h. runIn (scanPast h) ≡ 0) (ltb (p .passed) 5) (λ e. refl) (λ e. refl)
 
 grown-run :
-    (cell before run : ℕ) → runOf cell before ≡ run → (scan : Scan) → runIn (scanPast (grownOf cell run scan)) ≡ run
-unfolding grownOf scanPast runIn
+    (cell before run : ℕ) → syncRun cell before ≡ run → (scan : Scan) → runIn (scanPast (idCellStep cell run scan)) ≡ run
+unfolding idCellStep scanPast runIn
 grown-run cell before run e (Gap r) = refl
 grown-run cell before run e (Field p) =
     by-cond (λ h. runIn (scanPast h) ≡ run) (unflagged cell)
     (λ low. added-run p (byteOf cell) ∙ sym (unflagged-run cell before low) ∙ e)
     (λ high. refl)
 
-begun-run : (mfm : Bool) (b : ℕ) → runIn (begunOf mfm b) ≡ 0
-unfolding begunOf runIn
+begun-run : (mfm : Bool) (b : ℕ) → runIn (idBegun mfm b) ≡ 0
+unfolding idBegun runIn
 begun-run mfm b = by-cond (λ s. runIn s ≡ 0) (eqb b 0xFE) (λ e. refl) (λ e. refl)
 
-looked-run : (mfm : Bool) (cell : ℕ) (scan : Scan) → runIn (scanPast (heardOf mfm cell scan)) ≡ runPast (passedOf mfm cell (runIn scan))
-unfolding heardOf lookedOf runPast scanPast
-looked-run mfm cell scan = by (passedOf mfm cell (runIn scan)) refl
+looked-run : (mfm : Bool) (cell : ℕ) (scan : Scan) → runIn (scanPast (idStep mfm cell scan)) ≡ runPast (markStep mfm cell (runIn scan))
+unfolding idStep idMarkStep runPast scanPast
+looked-run mfm cell scan = by (markStep mfm cell (runIn scan)) refl
   where
     by :
         (p : Passed)
-        → passedOf mfm cell (runIn scan) ≡ p
-        → runIn (scanPast (lookedOf mfm cell scan p)) ≡ runPast p
+        → markStep mfm cell (runIn scan) ≡ p
+        → runIn (scanPast (idMarkStep mfm cell scan p)) ≡ runPast p
     by (Passed.Gap run) e = grown-run cell (runIn scan) run (gap-run mfm cell (runIn scan) run e) scan
     by (Mark b) e = begun-run mfm b
 
@@ -59,4 +59,4 @@ unfolding scanAfter runAfter runIn
 run-in mfm cells zero = refl
 run-in mfm cells (suc n) =
     looked-run mfm (cells n) (scanAfter mfm cells n)
-    ∙ ap (λ (run : ℕ). runPast (passedOf mfm (cells n) run)) (run-in mfm cells n)
+    ∙ ap (λ (run : ℕ). runPast (markStep mfm (cells n) run)) (run-in mfm cells n)

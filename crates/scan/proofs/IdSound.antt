@@ -14,14 +14,13 @@ use Rattle.scan.specs.declared.Part.{Part}
 use Rattle.scan.specs.declared.Scan.{Scan}
 use Rattle.scan.specs.declared.Scan.the-variants.{Gap, Field}
 use Rattle.scan.specs.declared.Heard.the-variants.{Whole}
-use Rattle.scan.specs.Marks.{byteOf, unflagged, passedOf}
-use Rattle.scan.specs.Ids.{begunOf, pushedOf, wholeOf, addedOf, runIn, grownOf, lookedOf, heardOf}
-use Rattle.scan.specs.Streams.{MarkAt, MarkEnds, behind, IdAt, idFrom, passedAt, scanPast, scanAfter, heardAt}
+use Rattle.scan.specs.Marks.{byteOf, unflagged, markStep}
+use Rattle.scan.specs.Ids.{idBegun, pushedOf, wholeOf, idByteStep, runIn, idCellStep, idMarkStep, idStep}
+use Rattle.scan.specs.Streams.{MarkAt, MarkEnds, behind, IdAt, idFrom, passedAt, scanPast, scanAfter, heardAt, IdEnds}
 use Rattle.scan.proofs.Marks.{marks}
 use Rattle.common.proofs.Cases.{by-cond, never}
 use Rattle.scan.proofs.IdRun.{run-in}
 use Rattle.scan.proofs.IdParts.{gathered, whole}
-use Rattle.scan.specs.Streams.{IdEnds}
 
 record Begun (mfm : Bool) (cells : ℕ → ℕ) (n : ℕ) (p : Part) : Type 0 where
   a : ℕ
@@ -74,8 +73,8 @@ added-held :
     (mfm : Bool) (cells : ℕ → ℕ) (n : ℕ) (p : Part)
     → Begun mfm cells n p
     → unflagged (cells n) ≡ true
-    → Held mfm cells (suc n) (scanPast (addedOf p (byteOf (cells n))))
-unfolding addedOf scanPast
+    → Held mfm cells (suc n) (scanPast (idByteStep p (byteOf (cells n))))
+unfolding idByteStep scanPast
 added-held mfm cells n p v low =
     by-cond (λ h. Held mfm cells (suc n) (scanPast h)) (ltb (p .passed) 5)
     (λ e. pushed-held mfm cells n p v low (ltb-true _ _ e))
@@ -84,16 +83,16 @@ added-held mfm cells n p v low =
 grown-held :
     (mfm : Bool) (cells : ℕ → ℕ) (n run : ℕ) (scan : Scan)
     → Held mfm cells n scan
-    → Held mfm cells (suc n) (scanPast (grownOf (cells n) run scan))
-unfolding grownOf scanPast
+    → Held mfm cells (suc n) (scanPast (idCellStep (cells n) run scan))
+unfolding idCellStep scanPast
 grown-held mfm cells n run (Gap r) v = tt
 grown-held mfm cells n run (Field p) v =
     by-cond (λ h. Held mfm cells (suc n) (scanPast h)) (unflagged (cells n))
     (λ e. added-held mfm cells n p v e)
     (λ e. tt)
 
-begun-held : (mfm : Bool) (cells : ℕ → ℕ) (n b : ℕ) → MarkEnds mfm cells n b → Held mfm cells (suc n) (begunOf mfm b)
-unfolding begunOf gathered
+begun-held : (mfm : Bool) (cells : ℕ → ℕ) (n b : ℕ) → MarkEnds mfm cells n b → Held mfm cells (suc n) (idBegun mfm b)
+unfolding idBegun gathered
 begun-held mfm cells n b (a, e, h) =
     by-cond (Held mfm cells (suc n)) (eqb b 0xFE)
     (λ q.
@@ -111,13 +110,13 @@ heard-held :
     (mfm : Bool) (cells : ℕ → ℕ) (n : ℕ)
     → Held mfm cells n (scanAfter mfm cells n)
     → Held mfm cells (suc n) (scanPast (heardAt mfm cells n))
-unfolding heardOf lookedOf scanPast
+unfolding idStep idMarkStep scanPast
 heard-held mfm cells n v = rw (run-in mfm cells n) (by (passedAt mfm cells n) refl)
   where
     by :
         (p : Passed)
         → passedAt mfm cells n ≡ p
-        → Held mfm cells (suc n) (scanPast (lookedOf mfm (cells n) (scanAfter mfm cells n) p))
+        → Held mfm cells (suc n) (scanPast (idMarkStep mfm (cells n) (scanAfter mfm cells n) p))
     by (Passed.Gap run) e = grown-held mfm cells n run (scanAfter mfm cells n) v
     by (Mark b) e = begun-held mfm cells n b (marks mfm cells n b .0 e)
 
@@ -130,9 +129,9 @@ added-whole :
     (mfm : Bool) (cells : ℕ → ℕ) (n : ℕ) (p : Part) (id : Id)
     → Begun mfm cells n p
     → unflagged (cells n) ≡ true
-    → addedOf p (byteOf (cells n)) ≡ Whole id
+    → idByteStep p (byteOf (cells n)) ≡ Whole id
     → IdEnds mfm cells n id
-unfolding addedOf
+unfolding idByteStep
 added-whole mfm cells n p id v low =
     by-cond (λ h. h ≡ Whole id → IdEnds mfm cells n id) (ltb (p .passed) 5)
     (λ e q. never (cc))
@@ -155,9 +154,9 @@ added-whole mfm cells n p id v low =
 grown-whole :
     (mfm : Bool) (cells : ℕ → ℕ) (n run : ℕ) (id : Id) (scan : Scan)
     → Held mfm cells n scan
-    → grownOf (cells n) run scan ≡ Whole id
+    → idCellStep (cells n) run scan ≡ Whole id
     → IdEnds mfm cells n id
-unfolding grownOf
+unfolding idCellStep
 grown-whole mfm cells n run id (Gap r) v = λ q. never (cc)
 grown-whole mfm cells n run id (Field p) v =
     by-cond (λ h. h ≡ Whole id → IdEnds mfm cells n id) (unflagged (cells n))
@@ -165,12 +164,12 @@ grown-whole mfm cells n run id (Field p) v =
     (λ e q. never (cc))
 
 pub sound : (mfm : Bool) (cells : ℕ → ℕ) (n : ℕ) (id : Id) → heardAt mfm cells n ≡ Whole id → IdEnds mfm cells n id
-unfolding heardOf lookedOf
-sound mfm cells n id = by (passedOf mfm (cells n) (runIn (scanAfter mfm cells n)))
+unfolding idStep idMarkStep
+sound mfm cells n id = by (markStep mfm (cells n) (runIn (scanAfter mfm cells n)))
   where
     by :
         (p : Passed)
-        → lookedOf mfm (cells n) (scanAfter mfm cells n) p ≡ Whole id
+        → idMarkStep mfm (cells n) (scanAfter mfm cells n) p ≡ Whole id
         → IdEnds mfm cells n id
     by (Passed.Gap run) q = grown-whole mfm cells n run id (scanAfter mfm cells n) (held mfm cells n) q
     by (Mark b) q = never (cc)

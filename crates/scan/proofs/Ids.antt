@@ -1,5 +1,5 @@
 -- The scanner for IDs says "a whole ID ends here, with these bytes and this verdict" exactly when the 7 (FM) or 10 (MFM)
--- cells that passed last, all since the scan began, are one: with a fourth A1 before them, behind an ID broken off by a
+-- cells that passed last, all since the scan began, are one: with a fourth A1 before them, after an ID broken off by a
 -- flagged cell, back to back with the mark before. Assumes nothing.
 use mathlib.Core.Path.{_≡_}
 use mathlib.Core.Bool.{Bool}
@@ -7,8 +7,7 @@ use mathlib.Core.Logic.{_↔_}
 use Prim.Native.Nat.{ℕ}
 use Rattle.scan.specs.declared.Id.{Id}
 use Rattle.scan.specs.declared.Heard.the-variants.{Whole}
-use Rattle.scan.specs.Streams.{heardAt}
-use Rattle.scan.specs.Streams.{IdEnds}
+use Rattle.scan.specs.Streams.{heardAt, IdEnds}
 use Rattle.scan.proofs.IdSound.{sound}
 use Rattle.scan.proofs.IdComplete.{complete}
 

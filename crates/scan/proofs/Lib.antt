@@ -1,4 +1,5 @@
--- What the proofs of `scan` share, and its laws for the crates above: `Marks`, `DataMarks` and `Ids`.
+-- What the proofs of `scan` share, and its laws for the crates above: `Rows`, `Marks`, `DataMarks` and `Ids`.
+pub mod Rows
 pub mod Preset
 pub mod Marks
 pub mod DataMarks

@@ -11,8 +11,13 @@ use lib.Dec.{ltb, leb, eqb}
 use borrow.Author.Tests.{ltb-true, ltb-false, leb-true, eqb-true, eqb-false, lt-ltb, le-leb, eq-eqb, ne-eqb}
 use Rattle.common.proofs.Cases.{by-cond, never, both}
 use Rattle.scan.specs.declared.Passed.the-variants.{Mark}
-use Rattle.scan.specs.Marks.{byteOf, unflagged, sync, leadOf, carriesMark, runOf, passedOf}
+use Rattle.scan.specs.Marks.{byteOf, unflagged, sync, syncs, leadOf, carriesMark, syncRun, markStep}
 use Rattle.scan.specs.Streams.{MarkAt, MarkEnds, runPast, runAfter, passedAt}
+
+pub lead-most : (mfm : Bool) → leadOf mfm ≤ syncs
+unfolding leadOf
+lead-most true = omega arith
+lead-most false = omega arith
 
 -- the j cells from a on are flagged A1s
 abbrev Syncs : (ℕ → ℕ) → ℕ → ℕ → Type 0
@@ -27,10 +32,10 @@ record Run (cells : ℕ → ℕ) (n r : ℕ) : Type 0 where
   longest : (b j : ℕ) → b + j ≡ n → j ≤ 3 → Syncs cells b j → j ≤ r
 
 -- in MFM a mark's byte is no flagged A1, so it ends the row as any other cell does
-run-past : (cell run : ℕ) → runPast (passedOf true cell run) ≡ runOf cell run
-unfolding passedOf runPast carriesMark runOf
+run-past : (cell run : ℕ) → runPast (markStep true cell run) ≡ syncRun cell run
+unfolding markStep runPast carriesMark syncRun
 run-past cell run =
-    by-cond (λ p. runPast p ≡ runOf cell run) (leb (leadOf true) run && unflagged cell)
+    by-cond (λ p. runPast p ≡ syncRun cell run) (leb (leadOf true) run && unflagged cell)
     (λ e.
     let low : cell < 256 = ltb-true cell 256 (both (leb (leadOf true) run) (unflagged cell) e .1) in
     sym (simp (ne-eqb cell sync (omega arith))))
@@ -86,8 +91,8 @@ longer cells n r v e =
     longest-more b (suc j) p h s =
         omega (arith, v .longest b j (omega arith) (omega arith) (λ i l. s i (omega arith)))
 
-run-step : (cells : ℕ → ℕ) (n r : ℕ) → Run cells n r → Run cells (suc n) (runOf (cells n) r)
-unfolding runOf
+run-step : (cells : ℕ → ℕ) (n r : ℕ) → Run cells n r → Run cells (suc n) (syncRun (cells n) r)
+unfolding syncRun
 run-step cells n r v =
     by-cond (Run cells (suc n)) (eqb (cells n) sync)
     (λ e. longer cells n r v (eqb-true (cells n) sync e))
@@ -110,8 +115,8 @@ run-after cells (suc n) =
 -- what a mark's end asks of the cell and of those before it
 pub marked :
     (mfm : Bool) (cell run b : ℕ)
-    → (passedOf mfm cell run ≡ Mark b) ↔ ((leadOf mfm ≤ run) × (carriesMark mfm cell ≡ true) × (byteOf cell ≡ b))
-unfolding passedOf
+    → (markStep mfm cell run ≡ Mark b) ↔ ((leadOf mfm ≤ run) × (carriesMark mfm cell ≡ true) × (byteOf cell ≡ b))
+unfolding markStep
 marked mfm cell run b = (
   by-cond
       (λ p. p ≡ Mark b → (leadOf mfm ≤ run) × (carriesMark mfm cell ≡ true) × (byteOf cell ≡ b)) (leb (leadOf mfm) run && carriesMark mfm cell)

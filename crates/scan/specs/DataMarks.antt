@@ -8,7 +8,7 @@ use Rattle.scan.specs.declared.DataMark.{DataMark}
 use Rattle.scan.specs.declared.DataMark.the-variants.{Fb, F8}
 use Rattle.scan.specs.declared.Sought.{Sought}
 use Rattle.scan.specs.declared.Sought.the-variants.{On, Met}
-use Rattle.scan.specs.Marks.{passedOf}
+use Rattle.scan.specs.Marks.{markStep}
 
 -- "Data marks are FB (normal) and F8 (deleted)."
 unfoldable pub markByte : DataMark → ℕ
@@ -27,9 +27,12 @@ unfoldable pub dataMarkIn : Passed → Sought
 dataMarkIn (Gap run) = On run
 dataMarkIn (Mark b) = dataMarkOf b
 
-unfoldable pub soughtOf : Bool → ℕ → ℕ → Sought
-soughtOf mfm cell run = dataMarkIn (passedOf mfm cell run)
+unfoldable pub dataMarkStep : Bool → ℕ → ℕ → Sought
+dataMarkStep mfm cell run = dataMarkIn (markStep mfm cell run)
 
 -- "The mark byte must be among the first 30 (FM) or 43 (MFM) cells after the ID's last; in MFM its three A1s too."
+abbrev pub longestWindow : ℕ
+longestWindow = 43
+
 unfoldable pub windowOf : Bool → ℕ
-windowOf mfm = cond mfm 43 30
+windowOf mfm = cond mfm longestWindow 30

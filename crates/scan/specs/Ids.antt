@@ -1,7 +1,7 @@
 -- The scanner for IDs, document 01, "Fields": "An ID is mark FE and six unflagged cells: track, side, sector, length, CRC."
 -- Assumes nothing.
 use mathlib.Core.Bool.{Bool, cond}
-use Prim.Native.Nat.{ℕ, _+_}
+use Prim.Native.Nat.{ℕ, _+_, _-_}
 use lib.Dec.{ltb, eqb}
 use Rattle.crc.specs.Crc.{crcByte}
 use Rattle.scan.specs.declared.Passed.{Passed}
@@ -12,11 +12,18 @@ use Rattle.scan.specs.declared.Scan.{Scan}
 use Rattle.scan.specs.declared.Scan.the-variants.{Gap, Field}
 use Rattle.scan.specs.declared.Heard.{Heard}
 use Rattle.scan.specs.declared.Heard.the-variants.{On, Whole}
-use Rattle.scan.specs.Marks.{byteOf, unflagged, passedOf, markCrc}
+use Rattle.scan.specs.Marks.{byteOf, unflagged, markStep, markCrc}
+
+-- the cells of an ID after its mark, and the last of them, counted from 0
+abbrev pub idCells : ℕ
+idCells = 6
+
+abbrev pub lastIdCell : ℕ
+lastIdCell = idCells - 1
 
 -- a mark FE begins an ID, any other mark none
-unfoldable pub begunOf : Bool → ℕ → Scan
-begunOf mfm b =
+unfoldable pub idBegun : Bool → ℕ → Scan
+idBegun mfm b =
     cond (eqb b 0xFE)
     (Field (record { passed = 0; crc = markCrc mfm 0xFE; track = 0; side = 0; sector = 0; length = 0 }))
     (Gap 0)
@@ -45,8 +52,8 @@ wholeOf p b =
     }
 
 -- the sixth makes the ID whole
-unfoldable pub addedOf : Part → ℕ → Heard
-addedOf p b = cond (ltb (p .passed) 5) (On (Field (pushedOf p b))) (Whole (wholeOf p b))
+unfoldable pub idByteStep : Part → ℕ → Heard
+idByteStep p b = cond (ltb (p .passed) lastIdCell) (On (Field (pushedOf p b))) (Whole (wholeOf p b))
 
 -- the flagged A1 cells that stand last in a row: none within an ID
 unfoldable pub runIn : Scan → ℕ
@@ -54,14 +61,14 @@ runIn (Gap run) = run
 runIn (Field p) = 0
 
 -- a cell that ends no mark: an unflagged one is an ID's next, any other breaks the ID off
-unfoldable pub grownOf : ℕ → ℕ → Scan → Heard
-grownOf cell run (Gap before) = On (Gap run)
-grownOf cell run (Field p) = cond (unflagged cell) (addedOf p (byteOf cell)) (On (Gap run))
+unfoldable pub idCellStep : ℕ → ℕ → Scan → Heard
+idCellStep cell run (Gap before) = On (Gap run)
+idCellStep cell run (Field p) = cond (unflagged cell) (idByteStep p (byteOf cell)) (On (Gap run))
 
-unfoldable pub lookedOf : Bool → ℕ → Scan → Passed → Heard
-lookedOf mfm cell scan (Passed.Gap run) = grownOf cell run scan
-lookedOf mfm cell scan (Mark b) = On (begunOf mfm b)
+unfoldable pub idMarkStep : Bool → ℕ → Scan → Passed → Heard
+idMarkStep mfm cell scan (Passed.Gap run) = idCellStep cell run scan
+idMarkStep mfm cell scan (Mark b) = On (idBegun mfm b)
 
 -- what the scanner says to a cell
-unfoldable pub heardOf : Bool → ℕ → Scan → Heard
-heardOf mfm cell scan = lookedOf mfm cell scan (passedOf mfm cell (runIn scan))
+unfoldable pub idStep : Bool → ℕ → Scan → Heard
+idStep mfm cell scan = idMarkStep mfm cell scan (markStep mfm cell (runIn scan))

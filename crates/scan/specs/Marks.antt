@@ -17,14 +17,17 @@ flagged cell = eqb (cell / 256) 1
 abbrev pub unflagged : ℕ → Bool
 unflagged cell = ltb cell 256
 
--- a flagged A1
+-- a flagged A1, and how many of them stand before a mark's byte in MFM
 abbrev pub sync : ℕ
 sync = 0x1A1
+
+abbrev pub syncs : ℕ
+syncs = 3
 
 -- "FM: a mark is one flagged cell; .. MFM: a mark is three flagged A1 cells, then an unflagged byte; .."
 -- So many flagged A1 cells stand before a mark's byte.
 unfoldable pub leadOf : Bool → ℕ
-leadOf mfm = cond mfm 3 0
+leadOf mfm = cond mfm syncs 0
 
 -- A mark's byte is flagged in FM and unflagged in MFM.
 unfoldable pub carriesMark : Bool → ℕ → Bool
@@ -32,12 +35,12 @@ carriesMark mfm cell = cond mfm (unflagged cell) (flagged cell)
 
 -- How many flagged A1 cells stand last in a row with this cell; more than three count as three, so the three before a byte
 -- count whatever stands before them.
-unfoldable pub runOf : ℕ → ℕ → ℕ
-runOf cell run = cond (eqb cell sync) (cond (ltb run 3) (run + 1) 3) 0
+unfoldable pub syncRun : ℕ → ℕ → ℕ
+syncRun cell run = cond (eqb cell sync) (cond (ltb run syncs) (run + 1) syncs) 0
 
--- What a cell is behind so many flagged A1 cells: the byte of a mark, or no mark's end.
-unfoldable pub passedOf : Bool → ℕ → ℕ → Passed
-passedOf mfm cell run = cond (leb (leadOf mfm) run && carriesMark mfm cell) (Mark (byteOf cell)) (Gap (runOf cell run))
+-- What a cell is after so many flagged A1 cells: the byte of a mark, or no mark's end.
+unfoldable pub markStep : Bool → ℕ → ℕ → Passed
+markStep mfm cell run = cond (leb (leadOf mfm) run && carriesMark mfm cell) (Mark (byteOf cell)) (Gap (syncRun cell run))
 
 -- "FM: .. CRC starts with it. MFM: .. CRC covers the A1s."
 unfoldable pub markBytes : Bool → ℕ → List ℕ

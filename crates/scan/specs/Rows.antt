@@ -4,5 +4,11 @@ use Prim.Native.Nat.{ℕ}
 use lib.Dec.{leb}
 
 -- "A track is a lent row of L numbers, L from 2,048 to 6,400."
+abbrev pub shortestRow : ℕ
+shortestRow = 2048
+
+abbrev pub longestRow : ℕ
+longestRow = 6400
+
 unfoldable pub lengthWithin : ℕ → Bool
-lengthWithin length = leb 2048 length && leb length 6400
+lengthWithin length = leb shortestRow length && leb length longestRow

@@ -14,9 +14,9 @@ use Rattle.scan.specs.declared.Scan.{Scan}
 use Rattle.scan.specs.declared.Scan.the-variants.{Gap}
 use Rattle.scan.specs.declared.Heard.{Heard}
 use Rattle.scan.specs.declared.Heard.the-variants.{On, Whole}
-use Rattle.scan.specs.Marks.{byteOf, sync, leadOf, passedOf}
-use Rattle.scan.specs.DataMarks.{soughtOf}
-use Rattle.scan.specs.Ids.{heardOf}
+use Rattle.scan.specs.Marks.{byteOf, sync, leadOf, markStep}
+use Rattle.scan.specs.DataMarks.{dataMarkStep}
+use Rattle.scan.specs.Ids.{idCells, idStep}
 
 -- "FM: a mark is one flagged cell; .. MFM: a mark is three flagged A1 cells, then an unflagged byte": a mark with the byte b
 -- stands in the stream from cell a on.
@@ -33,14 +33,14 @@ MarkAt true cells a b =
 abbrev pub MarkEnds : Bool → (ℕ → ℕ) → ℕ → ℕ → Type 0
 MarkEnds mfm cells n b = (a : ℕ) × (a + leadOf mfm ≡ n) × MarkAt mfm cells a b
 
--- the first of the six cells behind a mark that stands from a on
+-- the first of the six cells after a mark that stands from a on
 abbrev pub behind : Bool → ℕ → ℕ
 behind mfm a = suc (a + leadOf mfm)
 
 -- "An ID is mark FE and six unflagged cells": 7 cells (FM) or 10 (MFM) from a on.
 pub record IdAt (mfm : Bool) (cells : ℕ → ℕ) (a : ℕ) : Type 0 where
   pub mark : MarkAt mfm cells a 0xFE
-  pub plain : (i : ℕ) → i < 6 → cells (behind mfm a + i) < 256
+  pub plain : (i : ℕ) → i < idCells → cells (behind mfm a + i) < 256
 
 abbrev pub idWidth : Bool → ℕ
 idWidth mfm = leadOf mfm + 7
@@ -72,10 +72,10 @@ runPast (Mark b) = 0
 
 unfoldable pub runAfter : Bool → (ℕ → ℕ) → ℕ → ℕ
 runAfter mfm cells zero = 0
-runAfter mfm cells (suc n) = runPast (passedOf mfm (cells n) (runAfter mfm cells n))
+runAfter mfm cells (suc n) = runPast (markStep mfm (cells n) (runAfter mfm cells n))
 
 abbrev pub passedAt : Bool → (ℕ → ℕ) → ℕ → Passed
-passedAt mfm cells n = passedOf mfm (cells n) (runAfter mfm cells n)
+passedAt mfm cells n = markStep mfm (cells n) (runAfter mfm cells n)
 
 -- The scanner for data marks.
 unfoldable pub soughtPast : Sought → ℕ
@@ -84,10 +84,10 @@ soughtPast (Met mark) = 0
 
 unfoldable pub soughtAfter : Bool → (ℕ → ℕ) → ℕ → ℕ
 soughtAfter mfm cells zero = 0
-soughtAfter mfm cells (suc n) = soughtPast (soughtOf mfm (cells n) (soughtAfter mfm cells n))
+soughtAfter mfm cells (suc n) = soughtPast (dataMarkStep mfm (cells n) (soughtAfter mfm cells n))
 
 abbrev pub soughtAt : Bool → (ℕ → ℕ) → ℕ → Sought
-soughtAt mfm cells n = soughtOf mfm (cells n) (soughtAfter mfm cells n)
+soughtAt mfm cells n = dataMarkStep mfm (cells n) (soughtAfter mfm cells n)
 
 -- The scanner for IDs; after a whole ID it begins anew.
 unfoldable pub scanPast : Heard → Scan
@@ -96,7 +96,7 @@ scanPast (Whole id) = Gap 0
 
 unfoldable pub scanAfter : Bool → (ℕ → ℕ) → ℕ → Scan
 scanAfter mfm cells zero = Gap 0
-scanAfter mfm cells (suc n) = scanPast (heardOf mfm (cells n) (scanAfter mfm cells n))
+scanAfter mfm cells (suc n) = scanPast (idStep mfm (cells n) (scanAfter mfm cells n))
 
 abbrev pub heardAt : Bool → (ℕ → ℕ) → ℕ → Heard
-heardAt mfm cells n = heardOf mfm (cells n) (scanAfter mfm cells n)
+heardAt mfm cells n = idStep mfm (cells n) (scanAfter mfm cells n)

@@ -1,15 +1,30 @@
 // Fields on a stream of cells: marks, IDs and data marks, one cell a step, in both densities.
 ghost use mathlib.Core.Path.{_≡_};
 ghost use mathlib.Core.Bool.{cond};
-ghost use Rattle.scan.specs.Marks.{leadOf, carriesMark, runOf, passedOf, markCrc};
+ghost use Rattle.scan.specs.Marks.{leadOf, carriesMark, syncRun, markStep, markCrc};
 ghost use Rattle.scan.specs.Rows.{lengthWithin};
-ghost use Rattle.scan.specs.DataMarks.{dataMarkOf, dataMarkIn, soughtOf, markByte, isDeleted, windowOf};
-ghost use Rattle.scan.specs.Ids.{begunOf, runIn, addedOf, grownOf, lookedOf, heardOf};
+ghost use Rattle.scan.specs.DataMarks.{dataMarkOf, dataMarkIn, dataMarkStep, markByte, isDeleted, windowOf};
+ghost use Rattle.scan.specs.Ids.{idBegun, runIn, idByteStep, idCellStep, idMarkStep, idStep};
 
-// A1 with missing clocks.
+// The range of a row's length. The rows of every program follow from it.
+pub const SHORTEST_ROW: usize = 2048;
+
+pub const LONGEST_ROW: usize = 6400;
+
+// A1 with missing clocks, and how many of them stand before a mark's byte in MFM.
 pub const SYNC: u16 = 0x1A1;
 
-// What a cell is behind those that passed.
+pub const SYNCS: u8 = 3;
+
+// The cells of an ID after its mark, and the last of them, counted from 0.
+pub const ID_CELLS: u8 = 6;
+
+pub const LAST_ID_CELL: u8 = ID_CELLS - 1;
+
+// The longer of the two windows for a data mark, MFM's.
+pub const LONGEST_WINDOW: u8 = 43;
+
+// What a cell is after those that passed.
 pub enum Passed {
     // No mark ends here; so many flagged A1 cells, at most three, stand last in a row.
     Gap(u8),
@@ -37,7 +52,7 @@ pub struct Id {
     pub good: bool,
 }
 
-// What has passed of an ID behind its mark: how many cells, the register, and the bytes among them.
+// What has passed of an ID after its mark: how many cells, the register, and the bytes among them.
 pub struct Part {
     pub passed: u8,
     pub crc: u16,
@@ -64,14 +79,14 @@ pub enum Heard {
 pub fn length_within(length: usize) -> bool
     ensures { λ r. ⌜ r ≡ lengthWithin length ⌝ }
 {
-    (2048 <= length) & (length <= 6400)
+    (SHORTEST_ROW <= length) & (length <= LONGEST_ROW)
 }
 
 // How many flagged A1 cells stand before a mark's byte.
 pub fn lead(mfm: bool) -> u8
     ensures { λ r. ⌜ r ≡ leadOf mfm ⌝ }
 {
-    if mfm { 3 } else { 0 }
+    if mfm { SYNCS } else { 0 }
 }
 
 fn carries_mark(mfm: bool, cell: u16) -> bool
@@ -81,10 +96,10 @@ fn carries_mark(mfm: bool, cell: u16) -> bool
 }
 
 fn run_on(cell: u16, run: u8) -> u8
-    ensures { λ r. ⌜ r ≡ runOf cell run ⌝ }
+    ensures { λ r. ⌜ r ≡ syncRun cell run ⌝ }
 {
     if cell == SYNC {
-        if run < 3 { run + 1 } else { 3 }
+        if run < SYNCS { run + 1 } else { SYNCS }
     } else {
         0
     }
@@ -92,7 +107,7 @@ fn run_on(cell: u16, run: u8) -> u8
 
 // One cell more for whoever waits for a mark, with the flagged A1 cells in a row before it.
 pub fn pass(mfm: bool, cell: u16, run: u8) -> Passed
-    ensures { λ r. ⌜ r ≡ passedOf mfm cell run ⌝ }
+    ensures { λ r. ⌜ r ≡ markStep mfm cell run ⌝ }
 {
     if (lead(mfm) <= run) & carries_mark(mfm, cell) {
         Passed::Mark((cell % 256) as u8)
@@ -135,7 +150,7 @@ fn data_mark_in(passed: Passed) -> Sought
 
 // One cell more for whoever waits for a data mark; other marks are passed over.
 pub fn seek_data(mfm: bool, cell: u16, run: u8) -> Sought
-    ensures { λ r. ⌜ r ≡ soughtOf mfm cell run ⌝ }
+    ensures { λ r. ⌜ r ≡ dataMarkStep mfm cell run ⌝ }
 {
     data_mark_in(pass(mfm, cell, run))
 }
@@ -158,15 +173,15 @@ pub fn is_deleted(mark: DataMark) -> bool
     }
 }
 
-// How many cells behind an ID may hold its data mark.
+// How many cells after an ID may hold its data mark.
 pub fn window(mfm: bool) -> u8
     ensures { λ r. ⌜ r ≡ windowOf mfm ⌝ }
 {
-    if mfm { 43 } else { 30 }
+    if mfm { LONGEST_WINDOW } else { 30 }
 }
 
 fn begin(mfm: bool, byte: u8) -> Scan
-    ensures { λ r. ⌜ r ≡ begunOf mfm byte ⌝ }
+    ensures { λ r. ⌜ r ≡ idBegun mfm byte ⌝ }
 {
     if byte == 0xFE {
         Scan::Field(Part {
@@ -190,11 +205,11 @@ fn pick(on: bool, a: u8, b: u8) -> u8
 
 // An unflagged cell of an ID.
 fn add(part: Part, byte: u8) -> Heard
-    ensures { λ r. ⌜ r ≡ addedOf part byte ⌝ }
+    ensures { λ r. ⌜ r ≡ idByteStep part byte ⌝ }
 {
     let at = part.passed;
     let crc = crc::step(part.crc, byte);
-    if at < 5 {
+    if at < LAST_ID_CELL {
         Heard::On(Scan::Field(Part {
             passed: at + 1,
             crc: crc,
@@ -225,7 +240,7 @@ fn run_in(scan: Scan) -> u8
 
 // A cell that ends no mark: an ID's next if it may be, and else the gap's.
 fn grow(cell: u16, run: u8, scan: Scan) -> Heard
-    ensures { λ r. ⌜ r ≡ grownOf cell run scan ⌝ }
+    ensures { λ r. ⌜ r ≡ idCellStep cell run scan ⌝ }
 {
     match scan {
         Scan::Gap(_) => Heard::On(Scan::Gap(run)),
@@ -241,7 +256,7 @@ fn grow(cell: u16, run: u8, scan: Scan) -> Heard
 
 // A mark begins anew, whatever the scanner was in.
 fn look(mfm: bool, cell: u16, scan: Scan, passed: Passed) -> Heard
-    ensures { λ r. ⌜ r ≡ lookedOf mfm cell scan passed ⌝ }
+    ensures { λ r. ⌜ r ≡ idMarkStep mfm cell scan passed ⌝ }
 {
     match passed {
         Passed::Gap(run) => grow(cell, run, scan),
@@ -251,7 +266,7 @@ fn look(mfm: bool, cell: u16, scan: Scan, passed: Passed) -> Heard
 
 // One cell more for whoever waits for an ID.
 pub fn hear(mfm: bool, cell: u16, scan: Scan) -> Heard
-    ensures { λ r. ⌜ r ≡ heardOf mfm cell scan ⌝ }
+    ensures { λ r. ⌜ r ≡ idStep mfm cell scan ⌝ }
 {
     look(mfm, cell, scan, pass(mfm, cell, run_in(scan)))
 }

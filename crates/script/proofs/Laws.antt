@@ -6,7 +6,7 @@ use lib.Dec.{leb, eqb}
 use borrow.Author.Tests.{leb-false}
 use Rattle.common.proofs.Cases.{by-cond}
 use Rattle.script.specs.Words.{isLetter, isNumber}
-use Rattle.script.specs.Lines.{noLine, spoilt, lettered, numbered, lineWith, lineStart, wordEnd, crHeld, crStray, wordGrown, fedOf, lineOf}
+use Rattle.script.specs.Lines.{noLine, spoiltLine, letteredLine, numberedLine, lineWith, lineStart, wordEnd, crHeld, crStray, wordGrown, fedReader, endedLine}
 use Rattle.script.specs.declared.words.Word.{Word}
 use Rattle.script.specs.declared.lines.Line.{Line}
 use Rattle.script.specs.declared.lines.Reader.{Reader}
@@ -17,12 +17,12 @@ Holds l = l .count ≤ 65
 abbrev Reads : Reader → Type 0
 Reads r = Holds (r .line)
 
-lettered-holds : (l : Line) (w : Word) → Holds l → Holds (lettered l w)
-unfolding lettered spoilt
+lettered-holds : (l : Line) (w : Word) → Holds l → Holds (letteredLine l w)
+unfolding letteredLine spoiltLine
 lettered-holds l w h = by-cond Holds (isLetter w) (λ _. h) (λ _. h)
 
-numbered-holds : (l : Line) (w : Word) → Holds l → Holds (numbered l w)
-unfolding numbered spoilt
+numbered-holds : (l : Line) (w : Word) → Holds l → Holds (numberedLine l w)
+unfolding numberedLine spoiltLine
 numbered-holds l w h =
     by-cond Holds (leb 65 (l .count)) (λ _. h)
     (λ e. by-cond Holds (isNumber w) (λ _. omega (arith, leb-false 65 (l .count) e)) (λ _. h))
@@ -37,8 +37,8 @@ pub start-holds : lineStart .line .count ≤ 65
 unfolding lineStart noLine
 start-holds = zero-le
 
-pub fed-holds : (r : Reader) (byte : ℕ) → r .line .count ≤ 65 → fedOf r byte .line .count ≤ 65
-unfolding fedOf wordEnd crHeld crStray spoilt wordGrown
+pub fed-holds : (r : Reader) (byte : ℕ) → r .line .count ≤ 65 → fedReader r byte .line .count ≤ 65
+unfolding fedReader wordEnd crHeld crStray spoiltLine wordGrown
 fed-holds r byte h =
     by-cond Reads (r .comment) (λ _. h)
     (λ _. by-cond Reads (r .cr) (λ _. h)
@@ -49,8 +49,8 @@ fed-holds r byte h =
     ended : Holds (lineWith (r .line) (r .word))
     ended = with-holds (r .line) (r .word) h
 
-pub ended-holds : (r : Reader) (newline : Bool) → r .line .count ≤ 65 → lineOf r newline .count ≤ 65
-unfolding lineOf spoilt
+pub ended-holds : (r : Reader) (newline : Bool) → r .line .count ≤ 65 → endedLine r newline .count ≤ 65
+unfolding endedLine spoiltLine
 ended-holds r newline h = by-cond Holds (r .cr && not newline) (λ _. whole) (λ _. whole)
   where
     whole : Holds (lineWith (r .line) (r .word))

@@ -6,7 +6,7 @@ use Prim.Native.Nat.{ℕ}
 use lib.Dec.{leb, eqb}
 use Rattle.common.proofs.Cases.{by-cond}
 use Rattle.script.specs.Words.{isLetter, isNumber}
-use Rattle.script.specs.Lines.{spoilt, lettered, numbered, lineWith, wordEnd, crHeld, crStray, wordGrown, fedOf, lineOf}
+use Rattle.script.specs.Lines.{spoiltLine, letteredLine, numberedLine, lineWith, wordEnd, crHeld, crStray, wordGrown, fedReader, endedLine}
 use Rattle.script.specs.declared.words.Word.{Word}
 use Rattle.script.specs.declared.lines.Line.{Line}
 use Rattle.script.specs.declared.lines.Reader.{Reader}
@@ -18,34 +18,34 @@ abbrev Spoilt : Reader → Type 0
 Spoilt r = Bad (r .line)
 
 -- "A carriage return just before a newline belongs to the line's end"; a comment passes over it
-pub cr-newline : (r : Reader) → r .cr ≡ false → lineOf (fedOf r 0x0D) true ≡ lineOf r true
-unfolding fedOf lineOf crHeld
-cr-newline r none = by-cond (λ fed. lineOf fed true ≡ lineOf r true) (r .comment) (λ _. refl) (λ _. rw none refl)
+pub cr-newline : (r : Reader) → r .cr ≡ false → endedLine (fedReader r 0x0D) true ≡ endedLine r true
+unfolding fedReader endedLine crHeld
+cr-newline r none = by-cond (λ fed. endedLine fed true ≡ endedLine r true) (r .comment) (λ _. refl) (λ _. rw none refl)
 
-pub cr-held : (r : Reader) → r .comment ≡ false → r .cr ≡ false → fedOf r 0x0D .cr ≡ true
-unfolding fedOf crHeld
+pub cr-held : (r : Reader) → r .comment ≡ false → r .cr ≡ false → fedReader r 0x0D .cr ≡ true
+unfolding fedReader crHeld
 cr-held r words none = rw (words, none) refl
 
 -- "anywhere else outside a comment it is an error": before another byte
-pub cr-byte : (r : Reader) (byte : ℕ) → r .comment ≡ false → r .cr ≡ true → fedOf r byte .line .bad ≡ true
-unfolding fedOf crStray spoilt
+pub cr-byte : (r : Reader) (byte : ℕ) → r .comment ≡ false → r .cr ≡ true → fedReader r byte .line .bad ≡ true
+unfolding fedReader crStray spoiltLine
 cr-byte r byte words held = rw (words, held) refl
 
 -- "also at the very end of the input"
-pub cr-end : (r : Reader) → r .cr ≡ true → lineOf r false .bad ≡ true
-unfolding lineOf spoilt
+pub cr-end : (r : Reader) → r .cr ≡ true → endedLine r false .bad ≡ true
+unfolding endedLine spoiltLine
 cr-end r held = rw held refl
 
 with-bad : (l : Line) (w : Word) → Bad l → Bad (lineWith l w)
-unfolding lineWith lettered numbered spoilt
+unfolding lineWith letteredLine numberedLine spoiltLine
 with-bad l w h =
     by-cond Bad (eqb (w .size) 0) (λ _. h)
     (λ _. by-cond Bad (eqb (l .letter) 0)
     (λ _. by-cond Bad (isLetter w) (λ _. h) (λ _. refl))
     (λ _. by-cond Bad (leb 65 (l .count)) (λ _. refl) (λ _. by-cond Bad (isNumber w) (λ _. h) (λ _. refl))))
 
-pub stays-bad : (r : Reader) (byte : ℕ) → r .line .bad ≡ true → fedOf r byte .line .bad ≡ true
-unfolding fedOf wordEnd crHeld crStray wordGrown spoilt
+pub stays-bad : (r : Reader) (byte : ℕ) → r .line .bad ≡ true → fedReader r byte .line .bad ≡ true
+unfolding fedReader wordEnd crHeld crStray wordGrown spoiltLine
 stays-bad r byte h =
     by-cond Spoilt (r .comment) (λ _. h)
     (λ _. by-cond Spoilt (r .cr) (λ _. refl)
@@ -56,6 +56,6 @@ stays-bad r byte h =
     ended : Bad (lineWith (r .line) (r .word))
     ended = with-bad (r .line) (r .word) h
 
-pub ends-bad : (r : Reader) (newline : Bool) → r .line .bad ≡ true → lineOf r newline .bad ≡ true
-unfolding lineOf spoilt
+pub ends-bad : (r : Reader) (newline : Bool) → r .line .bad ≡ true → endedLine r newline .bad ≡ true
+unfolding endedLine spoiltLine
 ends-bad r newline h = by-cond Bad (r .cr && not newline) (λ _. refl) (λ _. with-bad (r .line) (r .word) h)

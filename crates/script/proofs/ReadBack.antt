@@ -37,9 +37,9 @@ is-digit n = rw value-digit (lt-ltb (n % 16) 16 (omega arith))
 grown : (m before : ℕ) → m < 65536 → before ≡ m / 16 → before % 4096 * 16 + m % 16 % 16 ≡ m
 grown m before h e = omega arith
 
-pub reads-back : (n : ℕ) → n < 65536 → (isNumber (wordOn noWord (hexOf n)) ≡ true) × (wordOn noWord (hexOf n) .value ≡ n)
+pub hex-is-number : (n : ℕ) → n < 65536 → (isNumber (wordOn noWord (hexOf n)) ≡ true) × (wordOn noWord (hexOf n) .value ≡ n)
 unfolding hexOf noWord wordWith longerBy isNumber
-reads-back n h = (
+hex-is-number n h = (
   simp is-digit,
   simp (
     value-digit,

@@ -1,6 +1,6 @@
 // A line of a script: its letter and its numbers.
 ghost use mathlib.Core.Path.{_≡_};
-ghost use Rattle.script.specs.Lines.{noLine, spoilt, lettered, numbered, lineWith, lineStart, wordEnd, crHeld, crStray, wordGrown, fedOf, lineOf};
+ghost use Rattle.script.specs.Lines.{noLine, spoiltLine, letteredLine, numberedLine, lineWith, lineStart, wordEnd, crHeld, crStray, wordGrown, fedReader, endedLine};
 use crate::words::Word;
 
 // A line so far. Its letter is 0 until it has one; its numbers are a place and 64 cells at most.
@@ -34,7 +34,7 @@ impl Line {
     }
 
     fn spoil(self) -> Line
-        ensures { λ r. ⌜ r ≡ spoilt self ⌝ }
+        ensures { λ r. ⌜ r ≡ spoiltLine self ⌝ }
     {
         let mut line = self;
         line.bad = true;
@@ -43,7 +43,7 @@ impl Line {
 
     // The first word is the letter.
     fn with_letter(self, word: Word) -> Line
-        ensures { λ r. ⌜ r ≡ lettered self word ⌝ }
+        ensures { λ r. ⌜ r ≡ letteredLine self word ⌝ }
     {
         if word.is_letter() {
             let mut line = self;
@@ -55,7 +55,7 @@ impl Line {
 
     // Each later word is a number.
     fn with_number(self, word: Word) -> Line
-        ensures { λ r. ⌜ r ≡ numbered self word ⌝ }
+        ensures { λ r. ⌜ r ≡ numberedLine self word ⌝ }
     {
         let count = self.count;
         if 65 <= count {
@@ -145,7 +145,7 @@ impl Reader {
 
     // After one byte more, which is no newline.
     pub fn fed(self, byte: u8) -> Reader
-        ensures { λ r. ⌜ r ≡ fedOf self byte ⌝ }
+        ensures { λ r. ⌜ r ≡ fedReader self byte ⌝ }
     {
         if self.comment {
             return self;
@@ -167,7 +167,7 @@ impl Reader {
 
     // The whole line, at its newline or else at the end of the input, before which no carriage return may stand.
     pub fn ended(self, newline: bool) -> Line
-        ensures { λ r. ⌜ r ≡ lineOf self newline ⌝ }
+        ensures { λ r. ⌜ r ≡ endedLine self newline ⌝ }
     {
         let line = self.line;
         let word = self.word;

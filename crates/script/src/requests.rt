@@ -1,6 +1,6 @@
 // What a line asks for: its letter, as many numbers as the letter takes, each within its bounds.
 ghost use mathlib.Core.Path.{_≡_};
-ghost use Rattle.script.specs.Requests.{powering, wiring, loading, reading, viewing, cellsFrom, ofNone, ofOne, ofTwo, ofThree, requestOf};
+ghost use Rattle.script.specs.Requests.{powerOnRequest, linesRequest, loadRequest, readRequest, viewRequest, cellsRequest, ofNone, ofOne, ofTwo, ofThree, requestOf};
 use crate::lines::Line;
 
 // What is asked of the controller that is there.
@@ -17,7 +17,7 @@ pub enum Call {
 pub enum Task {
     SetCount { count: u16 },
     Fill { place: u16, count: u16, cell: u16 },
-    // The cells are the line's numbers behind its first.
+    // The cells are the line's numbers after its first.
     SetCells { place: u16 },
     Show { place: u16, count: u16 },
     Swap,
@@ -36,7 +36,7 @@ pub enum Request {
 }
 
 fn power_on(density: u16, length: u16) -> Request
-    ensures { λ r. ⌜ r ≡ powering density length ⌝ }
+    ensures { λ r. ⌜ r ≡ powerOnRequest density length ⌝ }
 {
     if 1 < density {
         return Request::Bad;
@@ -48,7 +48,7 @@ fn power_on(density: u16, length: u16) -> Request
 }
 
 fn set_lines(bits: u16) -> Request
-    ensures { λ r. ⌜ r ≡ wiring bits ⌝ }
+    ensures { λ r. ⌜ r ≡ linesRequest bits ⌝ }
 {
     if 15 < bits {
         return Request::Bad;
@@ -57,7 +57,7 @@ fn set_lines(bits: u16) -> Request
 }
 
 fn load(register: u16, byte: u16) -> Request
-    ensures { λ r. ⌜ r ≡ loading register byte ⌝ }
+    ensures { λ r. ⌜ r ≡ loadRequest register byte ⌝ }
 {
     if 255 < register {
         return Request::Bad;
@@ -72,7 +72,7 @@ fn load(register: u16, byte: u16) -> Request
 }
 
 fn read(register: u16) -> Request
-    ensures { λ r. ⌜ r ≡ reading register ⌝ }
+    ensures { λ r. ⌜ r ≡ readRequest register ⌝ }
 {
     if 255 < register {
         return Request::Bad;
@@ -83,7 +83,7 @@ fn read(register: u16) -> Request
 }
 
 fn view(density: u16, track: u16, sector: u16) -> Request
-    ensures { λ r. ⌜ r ≡ viewing density track sector ⌝ }
+    ensures { λ r. ⌜ r ≡ viewRequest density track sector ⌝ }
 {
     if 1 < density {
         return Request::Bad;
@@ -101,9 +101,9 @@ fn view(density: u16, track: u16, sector: u16) -> Request
     }
 }
 
-// Line C names at least one cell behind its place; that it names no more than 64 the line has seen to.
+// Line C names at least one cell after its place; that it names no more than 64 the line has seen to.
 fn set_cells(count: usize, place: u16) -> Request
-    ensures { λ r. ⌜ r ≡ cellsFrom count place ⌝ }
+    ensures { λ r. ⌜ r ≡ cellsRequest count place ⌝ }
 {
     if count < 2 {
         return Request::Bad;

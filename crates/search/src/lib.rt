@@ -1,19 +1,20 @@
 // The search for an ID.
 ghost use mathlib.Core.Path.{_≡_};
-ghost use Rattle.search.specs.Search.{pulsesOf, sideOf, sideMatches, matchesFor, servedOf, againOf, foundOf, hearsOf, searchedOf};
+ghost use Rattle.search.specs.Search.{pulsesSeen, sideMatches, sectorMatches, matchesFor, afterMatch, afterRecord, idFound, searchStep, searchCell};
 use activity::Act;
 use activity::Activity;
 use activity::Deed;
 use activity::Seen;
-use order::Job;
-use order::Order;
+use command::Job;
+use command::Order;
+use command::SideAsked;
 use scan::Heard;
 use scan::Id;
 use scan::Scan;
 
-// Index pulses seen with this byte time; from the fifth on they need not be told apart.
+// Index pulses seen with this byte time; from the fifth on they need no longer be counted.
 pub fn pulses(seen: u8, index: bool) -> u8
-    ensures { λ r. ⌜ r ≡ pulsesOf seen index ⌝ }
+    ensures { λ r. ⌜ r ≡ pulsesSeen seen index ⌝ }
 {
     if index {
         if seen < 5 { seen + 1 } else { 5 }
@@ -22,45 +23,53 @@ pub fn pulses(seen: u8, index: bool) -> u8
     }
 }
 
-fn side_of(o: Order) -> u8
-    ensures { λ r. ⌜ r ≡ sideOf o ⌝ }
+fn side_matches(side: u8, asked: SideAsked) -> bool
+    ensures { λ r. ⌜ r ≡ sideMatches side asked ⌝ }
 {
-    if codes::bit(o.byte, codes::S) { 1 } else { 0 }
+    match asked {
+        SideAsked::Any => true,
+        SideAsked::Only(only) => side == only,
+    }
 }
 
-fn side_matches(o: Order, id: Id) -> bool
-    ensures { λ r. ⌜ r ≡ sideMatches o id ⌝ }
+fn sector_matches(o: Order, s: Seen, id: Id) -> bool
+    ensures { λ r. ⌜ r ≡ sectorMatches o s id ⌝ }
 {
-    !codes::bit(o.byte, codes::C) | (id.side == side_of(o))
+    (id.track == s.tr)
+        & (id.sector == s.sr)
+        & side_matches(id.side, command::bits::side_asked(o.byte))
 }
 
 fn matches(o: Order, s: Seen, id: Id, job: Job) -> bool
     ensures { λ r. ⌜ r ≡ matchesFor o s id job ⌝ }
 {
     match job {
+        Job::Nothing => false,
         Job::Verify => id.track == s.tr,
-        Job::ReadSector | Job::WriteSector => (id.track == s.tr)
-            & (id.sector == s.sr)
-            & side_matches(o, id),
-        _ => false,
+        Job::ReadSector => sector_matches(o, s, id),
+        Job::WriteSector => sector_matches(o, s, id),
+        Job::ReadAddress => false,
+        Job::ReadTrack => false,
+        Job::WriteTrack => false,
     }
 }
 
-// What comes behind a good match.
+// What comes after a good match.
 fn served(job: Job, length: u8) -> Activity
-    ensures { λ r. ⌜ r ≡ servedOf length job ⌝ }
+    ensures { λ r. ⌜ r ≡ afterMatch length job ⌝ }
 {
     match job {
-        Job::ReadSector => Activity::Window(codes::size(length) + 2, 0, 0),
-        Job::WriteSector => Activity::Preamble(codes::size(length) + 3, 0),
+        Job::ReadSector => Activity::Window(command::sizes::size(length) + 2, 0, 0),
+        Job::WriteSector => Activity::Preamble(command::sizes::size(length) + 3, 0),
         _ => Activity::Idle,
     }
 }
 
 fn found(o: Order, s: Seen, pulses: u8, id: Id) -> Act
-    ensures { λ r. ⌜ r ≡ foundOf o s pulses id ⌝ }
+    ensures { λ r. ⌜ r ≡ idFound o s pulses id ⌝ }
 {
-    let job = o.job;
+    let command = o.command;
+    let job = command::job_of(command);
     if matches(o, s, id, job) {
         if id.good {
             return Act {
@@ -83,7 +92,7 @@ fn found(o: Order, s: Seen, pulses: u8, id: Id) -> Act
 }
 
 fn hears(o: Order, s: Seen, pulses: u8, heard: Heard) -> Act
-    ensures { λ r. ⌜ r ≡ hearsOf o s pulses heard ⌝ }
+    ensures { λ r. ⌜ r ≡ searchStep o s pulses heard ⌝ }
 {
     match heard {
         Heard::On(scan) => Act {
@@ -95,9 +104,9 @@ fn hears(o: Order, s: Seen, pulses: u8, heard: Heard) -> Act
     }
 }
 
-// Behind a record: the next search, or the end.
+// After a record: the next search, or the end.
 pub fn again(multiple: bool) -> Activity
-    ensures { λ r. ⌜ r ≡ againOf multiple ⌝ }
+    ensures { λ r. ⌜ r ≡ afterRecord multiple ⌝ }
 {
     if multiple {
         Activity::Search(0, Scan::Gap(0))
@@ -108,7 +117,7 @@ pub fn again(multiple: bool) -> Activity
 
 // One cell more.
 pub fn search(o: Order, s: Seen, seen: u8, scan: Scan) -> Act
-    ensures { λ r. ⌜ r ≡ searchedOf o s seen scan ⌝ }
+    ensures { λ r. ⌜ r ≡ searchCell o s seen scan ⌝ }
 {
     let count = pulses(seen, s.index);
     if 5 <= count {

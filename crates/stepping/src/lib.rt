@@ -1,18 +1,20 @@
 // Type I: stepping and its end.
 ghost use mathlib.Core.Path.{_≡_};
-ghost use Rattle.stepping.specs.Stepping.{stopOf, movedOf, stepOf, decidedOf, soughtOf, pulsedOf, stoppedOf};
+ghost use Rattle.stepping.specs.Stepping.{stopAct, trackAfter, stepAct, seekDecision, seekTurn, pulseTurn, stopTurn};
 use activity::Act;
 use activity::Activity;
 use activity::Deed;
 use activity::Seen;
-use order::Order;
+use command::Order;
 
-// Stepping is over, by the track 0 rule or because the track is reached. A Restore that has not found track 0 is lost.
+// Stepping is over, by the track 0 rule or because the track is reached. With V a Restore that
+// has not found track 0 is a Seek Error.
 fn stop(o: Order, s: Seen, rule: bool) -> Act
-    ensures { λ r. ⌜ r ≡ stopOf o s rule ⌝ }
+    ensures { λ r. ⌜ r ≡ stopAct o s rule ⌝ }
 {
-    if codes::bit(o.byte, codes::V) {
-        if (o.byte <= 0x0F) & !s.track0 {
+    let command = o.command;
+    if command::bits::verifies_track(o.byte) {
+        if command::is_restore(command) & !s.track0 {
             return Act {
                 next: Activity::Idle,
                 deed: Deed::NotFound,
@@ -20,7 +22,7 @@ fn stop(o: Order, s: Seen, rule: bool) -> Act
             };
         }
         return Act {
-            next: Activity::Settle(codes::settle_time(s.mfm)),
+            next: Activity::Settle(command::times::settle_time(s.mfm)),
             deed: Deed::Halt(rule, true),
             cell: s.cell,
         };
@@ -32,9 +34,9 @@ fn stop(o: Order, s: Seen, rule: bool) -> Act
     }
 }
 
-// TR behind a step; it wraps.
+// TR after a step; it wraps.
 fn moved(moves: bool, inward: bool, track: u8) -> u8
-    ensures { λ r. ⌜ r ≡ movedOf moves inward track ⌝ }
+    ensures { λ r. ⌜ r ≡ trackAfter moves inward track ⌝ }
 {
     if moves {
         if inward {
@@ -48,7 +50,7 @@ fn moved(moves: bool, inward: bool, track: u8) -> u8
 }
 
 fn step(o: Order, s: Seen, inward: bool, moves: bool, next: Activity) -> Act
-    ensures { λ r. ⌜ r ≡ stepOf o s inward moves next ⌝ }
+    ensures { λ r. ⌜ r ≡ stepAct o s inward moves next ⌝ }
 {
     if !inward & s.track0 {
         return stop(o, s, true);
@@ -61,7 +63,7 @@ fn step(o: Order, s: Seen, inward: bool, moves: bool, next: Activity) -> Act
 }
 
 fn decide(o: Order, s: Seen) -> Act
-    ensures { λ r. ⌜ r ≡ decidedOf o s ⌝ }
+    ensures { λ r. ⌜ r ≡ seekDecision o s ⌝ }
 {
     if s.tr == s.dr {
         return stop(o, s, false);
@@ -71,13 +73,13 @@ fn decide(o: Order, s: Seen) -> Act
         s,
         s.tr < s.dr,
         true,
-        Activity::Seek(codes::step_time(s.mfm, o.byte)),
+        Activity::Seek(command::times::step_time(s.mfm, o.byte)),
     )
 }
 
 // Restore and Seek.
 pub fn seek(o: Order, s: Seen, left: u16) -> Act
-    ensures { λ r. ⌜ r ≡ soughtOf o s left ⌝ }
+    ensures { λ r. ⌜ r ≡ seekTurn o s left ⌝ }
 {
     if left <= 1 {
         return decide(o, s);
@@ -91,15 +93,15 @@ pub fn seek(o: Order, s: Seen, left: u16) -> Act
 
 // Step, Step-in and Step-out.
 pub fn pulse(o: Order, s: Seen) -> Act
-    ensures { λ r. ⌜ r ≡ pulsedOf o s ⌝ }
+    ensures { λ r. ⌜ r ≡ pulseTurn o s ⌝ }
 {
-    let next = Activity::Stop(codes::step_time(s.mfm, o.byte));
-    step(o, s, o.inward, codes::bit(o.byte, codes::T), next)
+    let next = Activity::Stop(command::times::step_time(s.mfm, o.byte));
+    step(o, s, o.inward, command::bits::updates_track(o.byte), next)
 }
 
-// Behind the one pulse.
+// After the one pulse.
 pub fn stop_in(o: Order, s: Seen, left: u16) -> Act
-    ensures { λ r. ⌜ r ≡ stoppedOf o s left ⌝ }
+    ensures { λ r. ⌜ r ≡ stopTurn o s left ⌝ }
 {
     if left <= 1 {
         return stop(o, s, false);

@@ -3,16 +3,16 @@ use mathlib.Core.Path.{_≡_, refl}
 use mathlib.Core.List.{List, [], _∷_}
 use Prim.Native.Nat.{ℕ}
 use types.Run.{miss}
-use Rattle.act.proofs.Arms.{Among}
+use Rattle.activity.proofs.Arms.{Among}
 use Rattle.activity.specs.declared.Activity.{Activity}
 use Rattle.activity.specs.declared.Activity.the-variants.{Idle, Seek, Pulse, Stop, Settle, Search, Window, Data, Hunt, Address, Await, TrackRead, Preamble, Put, Format, FormatCrc}
-use Rattle.stretch.specs.Stretches.{nowhere, reachOf, laterOf}
+use Rattle.stretch.specs.Stretches.{nowhere, reachOf, activityAfter}
 
 abbrev without-wait : List ℕ
 without-wait = 0 ∷ 2 ∷ 5 ∷ 6 ∷ 7 ∷ 8 ∷ 9 ∷ 10 ∷ 11 ∷ 12 ∷ 13 ∷ 14 ∷ 15 ∷ []
 
-pub later-else : (passed : ℕ) (a : Activity) → Among without-wait a → a ≡ laterOf passed a
-unfolding laterOf
+pub later-else : (passed : ℕ) (a : Activity) → Among without-wait a → a ≡ activityAfter passed a
+unfolding activityAfter
 later-else passed Idle h = refl
 later-else passed (Seek left) h = absurd (miss without-wait 1 tt h)
 later-else passed Pulse h = refl

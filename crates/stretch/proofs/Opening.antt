@@ -9,9 +9,9 @@ use lib.ListN.{length}
 use borrow.Author.Tests.{eqb-true, eqb-false, leb-false, not-false}
 use Rattle.common.proofs.Cases.{neither}
 use Rattle.activity.specs.declared.Activity.{Activity}
-use Rattle.chip.specs.declared.Ring.{Ring}
+use Rattle.registers.specs.declared.Ring.{Ring}
 use Rattle.stretch.specs.declared.Reach.{Reach}
-use Rattle.stretch.specs.Stretches.{clearFrom, reachIn, aheadOf}
+use Rattle.stretch.specs.Stretches.{clearFrom, reachIn, stretchAhead}
 
 pub record Open (position size cells : ℕ) : Type 0 where
   pub some : 0 < position
@@ -36,8 +36,8 @@ pub found : (r : Ring) (a : Activity) (limit : ℕ) (row : List ℕ) (reach : Re
     → (eqb (r .position) 0 || leb (r .length) (r .position) || not (eqb (length row) (r .length))) ≡ false
     → reach ≡ reachIn r a limit
     → place ≡ clearFrom row (reach .below) (r .position + reach .most - r .position) (r .position)
-    → place - r .position ≡ aheadOf r a limit row
-unfolding aheadOf
+    → place - r .position ≡ stretchAhead r a limit row
+unfolding stretchAhead
 found r a limit row reach place e h p =
     let n : r .position + reach .most - r .position ≡ reach .most = omega arith in
     ap (λ (x : ℕ). x - r .position)

@@ -10,16 +10,16 @@ use borrow.Author.Tests.{ltb-true, ltb-false}
 use Rattle.common.proofs.Cases.{by-cond}
 use Rattle.scan.specs.declared.Scan.{Scan}
 use Rattle.scan.specs.declared.Scan.the-variants.{Gap}
-use Rattle.order.specs.declared.Order.{Order}
+use Rattle.command.specs.declared.Order.{Order}
 use Rattle.activity.specs.Acts.{pass}
 use Rattle.activity.specs.declared.Seen.{Seen}
 use Rattle.activity.specs.declared.Activity.{Activity}
 use Rattle.activity.specs.declared.Activity.the-variants.{Idle, Seek, Pulse, Stop, Settle, Search, Window, Data, Hunt, Address, Await, TrackRead, Preamble, Put, Format, FormatCrc}
 use Rattle.activity.specs.declared.Deed.the-variants.{Nothing}
 use Rattle.act.specs.Turns.{actOf}
-use Rattle.chip.specs.declared.Ring.{Ring}
+use Rattle.registers.specs.declared.Ring.{Ring}
 use Rattle.stretch.specs.declared.Reach.{Reach}
-use Rattle.stretch.specs.Stretches.{leastOf, waitReach, emptyGap, searchReach, reachOf, laterOf, clearFrom, reachIn, aheadOf}
+use Rattle.stretch.specs.Stretches.{leastOf, waitReach, emptyGap, searchReach, reachOf, activityAfter, clearFrom, reachIn, stretchAhead}
 use Rattle.stretch.proofs.Opening.{opens}
 use Rattle.stretch.proofs.Stretching.{act-still}
 
@@ -79,7 +79,7 @@ module _ (row : List ℕ) (below : ℕ) where
       (λ e. omega (arith, clear-most n (suc from)))
       (λ e. omega arith)
 
-  -- the cell at hand, or one behind it
+  -- the cell at hand, or one after it
   or-behind : (P : ℕ → Type 0) (from i : ℕ) → P from → ((k : ℕ) → i ≡ suc k → P (suc from + k)) → P (from + i)
   or-behind P from zero here later = let z : from + 0 ≡ from = omega arith in rw z here
   or-behind P from (suc i) here later = let z : from + suc i ≡ suc from + i = omega arith in rw z (later i refl)
@@ -103,7 +103,7 @@ pub record Passes (r : Ring) (a : Activity) (limit : ℕ) (row : List ℕ) (k : 
   pub most : k ≤ limit
   pub taken : (i : ℕ) → i < k → getD row (r .position + i) 0 < 512
   pub still : (o : Order) (s : Seen) (i : ℕ) → i < k → s .index ≡ false → s .cell ≡ getD row (r .position + i) 0
-      → actOf o s (laterOf i a) ≡ pass s (laterOf (suc i) a) Nothing
+      → actOf o s (activityAfter i a) ≡ pass s (activityAfter (suc i) a) Nothing
 
 module _ (r : Ring) (a : Activity) (limit : ℕ) (row : List ℕ) where
   abbrev room : ℕ
@@ -127,8 +127,8 @@ module _ (r : Ring) (a : Activity) (limit : ℕ) (row : List ℕ) where
             act-still o s none a room i (omega (arith, far)) (rw cell (low i (omega arith)));
       }
 
-  pub ahead-passes : 0 < aheadOf r a limit row → Passes r a limit row (aheadOf r a limit row)
-  unfolding aheadOf reachIn
+  pub ahead-passes : 0 < stretchAhead r a limit row → Passes r a limit row (stretchAhead r a limit row)
+  unfolding stretchAhead reachIn
   ahead-passes = by (eqb (r .position) 0 || leb (r .length) (r .position) || not (eqb (length row) (r .length))) refl
     where
       by : (b : Bool) → (eqb (r .position) 0 || leb (r .length) (r .position) || not (eqb (length row) (r .length))) ≡ b

@@ -7,12 +7,12 @@ use native.Mathlib.Omega.{arith}
 use lib.Dec.{ltb, leb}
 use borrow.Author.Tests.{ltb-true, ltb-false, eqb-true, lt-leb, ne-eqb}
 use Rattle.common.proofs.Cases.{by-cond, both, never}
-use Rattle.scan.specs.Ids.{runIn, grownOf, lookedOf, heardOf}
+use Rattle.scan.specs.Ids.{runIn, idCellStep, idMarkStep, idStep}
 use Rattle.scan.specs.declared.Scan.{Scan}
 use Rattle.scan.specs.declared.Scan.the-variants.{Gap, Field}
 use Rattle.scan.specs.declared.Heard.the-variants as heard
 use Rattle.scan.proofs.IdComplete.{plain-gap}
-use Rattle.order.specs.declared.Order.{Order}
+use Rattle.command.specs.declared.Order.{Order}
 use Rattle.activity.specs.Acts.{pass}
 use Rattle.activity.specs.Limits.{busyIn}
 use Rattle.activity.specs.declared.Act.{Act}
@@ -20,12 +20,12 @@ use Rattle.activity.specs.declared.Seen.{Seen}
 use Rattle.activity.specs.declared.Activity.{Activity}
 use Rattle.activity.specs.declared.Activity.the-variants.{Idle, Seek, Pulse, Stop, Settle, Search, Window, Data, Hunt, Address, Await, TrackRead, Preamble, Put, Format, FormatCrc}
 use Rattle.activity.specs.declared.Deed.the-variants.{Nothing}
-use Rattle.stepping.specs.Stepping.{stopOf, decidedOf, soughtOf, stoppedOf}
-use Rattle.search.specs.Search.{pulsesOf, hearsOf, searchedOf}
-use Rattle.reading.specs.Reading.{huntedOf, huntOf}
-use Rattle.act.specs.Turns.{settledOf, enteredOf, settlingOf, awaitingOf, reactedOf, actOf}
+use Rattle.stepping.specs.Stepping.{stopAct, seekDecision, seekTurn, stopTurn}
+use Rattle.search.specs.Search.{pulsesSeen, searchStep, searchCell}
+use Rattle.reading.specs.Reading.{huntStep, huntCell}
+use Rattle.act.specs.Turns.{begunActivity, settleTurn, awaitTurn, activityAct, actOf}
 use Rattle.stretch.specs.declared.Reach.{Reach}
-use Rattle.stretch.specs.Stretches.{leastOf, waitReach, emptyGap, searchReach, reachOf, laterOf}
+use Rattle.stretch.specs.Stretches.{leastOf, waitReach, emptyGap, searchReach, reachOf, activityAfter}
 
 least-left : (a b : ℕ) (k : ℕ) → k < leastOf a b → k < a
 unfolding leastOf
@@ -38,8 +38,8 @@ empty (Gap run) e = ap Gap (eqb-true run 0 e)
 empty (Field part) e = never (cc)
 
 -- an unflagged cell in a gap
-heard-gap : (mfm : Bool) (cell : ℕ) → cell < 256 → heardOf mfm cell (Gap 0) ≡ heard.On (Gap 0)
-unfolding heardOf runIn lookedOf grownOf
+heard-gap : (mfm : Bool) (cell : ℕ) → cell < 256 → idStep mfm cell (Gap 0) ≡ heard.On (Gap 0)
+unfolding idStep runIn idMarkStep idCellStep
 heard-gap mfm cell h = rw (plain-gap mfm cell h)
 
 module _ (o : Order) (s : Seen) (none : s .index ≡ false) where
@@ -57,14 +57,14 @@ module _ (o : Order) (s : Seen) (none : s .index ≡ false) where
       (λ e h plain. absurd (omega arith))
 
   search-still : (pulses : ℕ) (scan : Scan) → pulses < 5 → scan ≡ Gap 0 → s .cell < 256
-      → searchedOf o s pulses scan ≡ pass s (Search pulses scan) Nothing
-  unfolding searchedOf pulsesOf hearsOf
+      → searchCell o s pulses scan ≡ pass s (Search pulses scan) Nothing
+  unfolding searchCell pulsesSeen searchStep
   search-still pulses scan few gap plain =
       rw (gap, none, lt-leb 5 pulses few) (rw (heard-gap (s .mfm) (s .cell) plain))
 
   hunt-still : (pulses run : ℕ) → pulses < 5 → Gap run ≡ Gap 0 → s .cell < 256
-      → huntOf s pulses run ≡ pass s (Hunt pulses run) Nothing
-  unfolding huntOf huntedOf pulsesOf
+      → huntCell s pulses run ≡ pass s (Hunt pulses run) Nothing
+  unfolding huntCell huntStep pulsesSeen
   hunt-still pulses run few gap plain =
       let zero : run ≡ 0 = cc in
       rw (zero, none, lt-leb 5 pulses few) (rw (plain-gap (s .mfm) (s .cell) plain) refl)
@@ -80,24 +80,24 @@ module _ (o : Order) (s : Seen) (none : s .index ≡ false) where
       let less : left - k - 1 ≡ left - suc k = omega arith in rw (lt-leb (left - k) 1 (omega arith), less) refl
 
   await-still : actOf o s Await ≡ pass s Await Nothing
-  unfolding actOf settledOf enteredOf reactedOf awaitingOf
+  unfolding actOf begunActivity activityAct awaitTurn
   await-still = rw none refl
 
   settle-still : (left k : ℕ) → k < left → actOf o s (Settle (left - k)) ≡ pass s (Settle (left - suc k)) Nothing
-  unfolding actOf settledOf enteredOf reactedOf settlingOf
+  unfolding actOf begunActivity activityAct settleTurn
   settle-still left k h =
       let some : (left - k ≡ 0) → ⊥ = λ z. absurd (omega arith) in
       let less : left - k - 1 ≡ left - suc k = omega arith in
       rw (ne-eqb (left - k) 0 some) (rw (ne-eqb (left - k) 0 some, less))
 
   pub act-still : (a : Activity) (limit k : ℕ) → k < reachOf limit a .most → s .cell < reachOf limit a .below
-      → actOf o s (laterOf k a) ≡ pass s (laterOf (suc k) a) Nothing
-  unfolding actOf settledOf enteredOf reactedOf soughtOf stoppedOf reachOf laterOf
+      → actOf o s (activityAfter k a) ≡ pass s (activityAfter (suc k) a) Nothing
+  unfolding actOf begunActivity activityAct seekTurn stopTurn reachOf activityAfter
   act-still Idle limit k h below = refl
   act-still (Seek left) limit k h below =
-      decides-later Seek (decidedOf o s) left k (wait-left limit (left - 1) k h)
+      decides-later Seek (seekDecision o s) left k (wait-left limit (left - 1) k h)
   act-still (Stop left) limit k h below =
-      decides-later Stop (stopOf o s false) left k (wait-left limit (left - 1) k h)
+      decides-later Stop (stopAct o s false) left k (wait-left limit (left - 1) k h)
   act-still (Settle left) limit k h below = settle-still left k (wait-left limit left k h)
   act-still Await limit k h below = await-still
   act-still (Search pulses scan) limit k h below = in-gap _ limit k pulses scan (search-still pulses scan) h below
@@ -113,8 +113,8 @@ module _ (o : Order) (s : Seen) (none : s .index ≡ false) where
   act-still (FormatCrc crc) limit k h below = absurd (omega arith)
 
 -- a stretch ends no command
-pub busy-later : (k : ℕ) (a : Activity) → busyIn (laterOf k a) ≡ busyIn a
-unfolding busyIn laterOf
+pub busy-later : (k : ℕ) (a : Activity) → busyIn (activityAfter k a) ≡ busyIn a
+unfolding busyIn activityAfter
 busy-later k Idle = refl
 busy-later k (Seek left) = refl
 busy-later k Pulse = refl
@@ -133,8 +133,8 @@ busy-later k (Format crc) = refl
 busy-later k (FormatCrc crc) = refl
 
 -- a stretch of none
-pub later-none : (a : Activity) → laterOf 0 a ≡ a
-unfolding laterOf
+pub later-none : (a : Activity) → activityAfter 0 a ≡ a
+unfolding activityAfter
 later-none Idle = refl
 later-none (Seek left) = ap Seek (omega arith)
 later-none Pulse = refl

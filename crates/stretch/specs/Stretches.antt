@@ -9,7 +9,7 @@ use Rattle.scan.specs.declared.Scan.{Scan}
 use Rattle.scan.specs.declared.Scan.the-variants.{Gap, Field}
 use Rattle.activity.specs.declared.Activity.{Activity}
 use Rattle.activity.specs.declared.Activity.the-variants.{Idle, Seek, Pulse, Stop, Settle, Search, Window, Data, Hunt, Address, Await, TrackRead, Preamble, Put, Format, FormatCrc}
-use Rattle.chip.specs.declared.Ring.{Ring}
+use Rattle.registers.specs.declared.Ring.{Ring}
 use Rattle.stretch.specs.declared.Reach.{Reach}
 
 unfoldable pub leastOf : ℕ → ℕ → ℕ
@@ -52,24 +52,24 @@ reachOf limit (Put left crc) = nowhere
 reachOf limit (Format crc) = nowhere
 reachOf limit (FormatCrc crc) = nowhere
 
--- the activity behind so many such byte times: of a wait so many fewer are left
-unfoldable pub laterOf : ℕ → Activity → Activity
-laterOf passed Idle = Idle
-laterOf passed (Seek left) = Seek (left - passed)
-laterOf passed Pulse = Pulse
-laterOf passed (Stop left) = Stop (left - passed)
-laterOf passed (Settle left) = Settle (left - passed)
-laterOf passed (Search pulses scan) = Search pulses scan
-laterOf passed (Window left gone run) = Window left gone run
-laterOf passed (Data left crc deleted) = Data left crc deleted
-laterOf passed (Hunt pulses run) = Hunt pulses run
-laterOf passed (Address gone crc track) = Address gone crc track
-laterOf passed Await = Await
-laterOf passed TrackRead = TrackRead
-laterOf passed (Preamble left gone) = Preamble left gone
-laterOf passed (Put left crc) = Put left crc
-laterOf passed (Format crc) = Format crc
-laterOf passed (FormatCrc crc) = FormatCrc crc
+-- the activity after so many such byte times: of a wait so many fewer are left
+unfoldable pub activityAfter : ℕ → Activity → Activity
+activityAfter passed Idle = Idle
+activityAfter passed (Seek left) = Seek (left - passed)
+activityAfter passed Pulse = Pulse
+activityAfter passed (Stop left) = Stop (left - passed)
+activityAfter passed (Settle left) = Settle (left - passed)
+activityAfter passed (Search pulses scan) = Search pulses scan
+activityAfter passed (Window left gone run) = Window left gone run
+activityAfter passed (Data left crc deleted) = Data left crc deleted
+activityAfter passed (Hunt pulses run) = Hunt pulses run
+activityAfter passed (Address gone crc track) = Address gone crc track
+activityAfter passed Await = Await
+activityAfter passed TrackRead = TrackRead
+activityAfter passed (Preamble left gone) = Preamble left gone
+activityAfter passed (Put left crc) = Put left crc
+activityAfter passed (Format crc) = Format crc
+activityAfter passed (FormatCrc crc) = FormatCrc crc
 
 -- the first place from there on, within n cells, whose cell is not below the bound
 unfoldable pub clearFrom : List ℕ → ℕ → ℕ → ℕ → ℕ
@@ -77,11 +77,11 @@ clearFrom row below zero from = from
 clearFrom row below (suc n) from = cond (ltb (getD row from 0) below) (clearFrom row below n (suc from)) from
 
 -- how many byte times of a stretch come next, at most so many: cell 0, whose byte time is an index pulse, and the ring's last,
--- behind which the position goes to 0, are in none
+-- after which the position goes to 0, are in none
 unfoldable pub reachIn : Ring → Activity → ℕ → Reach
 reachIn r a limit = reachOf (leastOf (r .length - 1 - r .position) limit) a
 
-unfoldable pub aheadOf : Ring → Activity → ℕ → List ℕ → ℕ
-aheadOf r a limit row =
+unfoldable pub stretchAhead : Ring → Activity → ℕ → List ℕ → ℕ
+stretchAhead r a limit row =
     cond (eqb (r .position) 0 || leb (r .length) (r .position) || not (eqb (length row) (r .length))) 0
     (clearFrom row (reachIn r a limit .below) (reachIn r a limit .most) (r .position) - r .position)

@@ -3,9 +3,9 @@
 ghost use mathlib.Core.Path.{_≡_};
 ghost use Prim.Native.Nat.{_+_, _-_, _≤_};
 ghost use lib.ListN.{length};
-ghost use Rattle.stretch.specs.Stretches.{leastOf, waitReach, emptyGap, searchReach, reachOf, laterOf, clearFrom, aheadOf};
+ghost use Rattle.stretch.specs.Stretches.{leastOf, waitReach, emptyGap, searchReach, reachOf, activityAfter, clearFrom, stretchAhead};
 use activity::Activity;
-use chip::Ring;
+use registers::Ring;
 use scan::Scan;
 
 // At most so many byte times, over cells below a bound.
@@ -21,7 +21,7 @@ fn least(a: u16, b: u16) -> u16
     if a < b { a } else { b }
 }
 
-// What is left of a wait behind so many byte times.
+// What is left of a wait after so many byte times.
 fn shorter(left: u16, passed: u16) -> u16
     ensures { λ r. ⌜ r ≡ left - passed ⌝ }
 {
@@ -85,9 +85,9 @@ fn reaches(limit: u16, activity: Activity) -> Reach
     }
 }
 
-// The activity behind so many such byte times.
+// The activity after so many such byte times.
 pub fn later(passed: u16, activity: Activity) -> Activity
-    ensures { λ r. ⌜ r ≡ laterOf passed activity ⌝ }
+    ensures { λ r. ⌜ r ≡ activityAfter passed activity ⌝ }
 {
     match activity {
         Activity::Seek(left) => Activity::Seek(shorter(left, passed)),
@@ -114,9 +114,9 @@ fn clear(row: &[u16], from: usize, to: usize, below: u16) -> usize
 }
 
 // How many byte times of a stretch come next, at most so many. Cell 0, whose byte time is an index pulse, and the ring's last,
-// behind which the position goes to 0, are in none.
+// after which the position goes to 0, are in none.
 pub fn ahead(ring: Ring, activity: Activity, limit: u16, row: &[u16]) -> u16
-    ensures { λ r. ⌜ r ≡ aheadOf ring activity limit (now (row .entry)) ⌝ }
+    ensures { λ r. ⌜ r ≡ stretchAhead ring activity limit (now (row .entry)) ⌝ }
     ensures { λ r. ⌜ r ≤ limit ⌝ }
 {
     if (ring.position == 0) | (ring.length <= ring.position) | (row.len() != ring.length as usize) {

@@ -29,7 +29,7 @@ module _ (mfm : Bool) (row : List ℕ) where
           let (a, p, f) = next-id mfm row from (length row) id behind .0 e in
           omega (arith, f .within .low)
 
-  -- behind the last cell there is no ID
+  -- after the last cell there is no ID
   none-past : (from : ℕ) → length row ≤ from → next from ≡ Nothing
   none-past from h = no-id mfm row from (length row) .1 (λ a w. absurd (omega (arith, w .low, w .high)))
 

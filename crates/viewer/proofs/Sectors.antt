@@ -18,7 +18,7 @@ use Rattle.scan.specs.declared.Id.{Id}
 use Rattle.scan.specs.declared.DataMark.{DataMark}
 use Rattle.scan.specs.Streams.{IdAt, idFrom, idWidth, crcFrom}
 use Rattle.scan.proofs.IdParts.{mark-crc}
-use Rattle.codes.specs.Sizes.{sizeOf}
+use Rattle.command.specs.Sizes.{sizeOf}
 use Rattle.fields.specs.Rings.{cellsOf}
 use Rattle.fields.specs.Ids.{nextId}
 use Rattle.fields.specs.DataMarks.{markBehind}
@@ -182,7 +182,7 @@ module _ (mfm : Bool) (row : List ℕ) (track sector : ℕ) where
   Verdict from Nowhere = (b c d : ℕ) → from ≤ b → Sector b c d → ⊥
   Verdict from (Cells f t) = (a : ℕ) × (from ≤ a) × Sector a f t × ((b c d : ℕ) → from ≤ b → b < a → Sector b c d → ⊥)
 
-  -- an ID that is none, and none before it, leaves those behind it
+  -- an ID that is none, and none before it, leaves those after it
   module _ (from a : ℕ) (id : Id) (f : FirstId mfm (cellsOf row) from (length row) a id) where
     before : (b c d : ℕ) → from ≤ b → b < a → Sector b c d → ⊥
     before b c d low l s = f .first b l (on-side from b c d low s)

@@ -13,14 +13,14 @@ use borrow.Author.Tests.{leb-true, le-leb}
 use Rattle.common.proofs.Cases.{never, both, all}
 use Rattle.scan.specs.Rows.{lengthWithin}
 use Rattle.scan.specs.Streams.{idFrom}
-use Rattle.codes.specs.Sizes.{sizeOf}
+use Rattle.command.specs.Sizes.{sizeOf}
 use Rattle.fields.specs.Rings.{cellsOf}
 use Rattle.viewer.specs.declared.Span.{Span}
 use Rattle.viewer.specs.declared.Span.the-variants.{Nowhere, Cells}
 use Rattle.viewer.specs.declared.Place.{Place}
 use Rattle.viewer.specs.declared.Place.the-variants.{Zero, One, Refused}
 use Rattle.viewer.specs.Sectors.{spanOn}
-use Rattle.viewer.specs.Views.{cellsWithin, refusalOf, secondOf, firstOf, placeOf, partOf, numberOf}
+use Rattle.viewer.specs.Views.{cellsWithin, viewRefusal, secondPlace, firstPlace, placeOf, partOf, numberOf}
 use Rattle.viewer.specs.Plain.{SectorAt, FirstSector, NoSector}
 use Rattle.viewer.proofs.Sectors.{first-sector, no-sector}
 
@@ -41,36 +41,36 @@ module _ (s0 s1 : List ℕ) (mfm : Bool) (track sector : ℕ) where
   -- ---- the place, by what the sides are and hold
 
   module _ (may : Open) where
-    searched : place ≡ firstOf (spanOn mfm s0 track sector) (spanOn mfm s1 track sector)
-    unfolding placeOf refusalOf
+    searched : place ≡ firstPlace (spanOn mfm s0 track sector) (spanOn mfm s1 track sector)
+    unfolding placeOf viewRefusal
     searched = simp (may .0, may .1)
 
     pub on-zero : (from to a : ℕ) → FirstSector mfm s0 track sector a from to → place ≡ Zero from to
-    unfolding firstOf
+    unfolding firstPlace
     on-zero from to a f =
         searched
-        ∙ ap (λ (s : Span). firstOf s (spanOn mfm s1 track sector)) (first-sector mfm s0 track sector from to .1 (a, f))
+        ∙ ap (λ (s : Span). firstPlace s (spanOn mfm s1 track sector)) (first-sector mfm s0 track sector from to .1 (a, f))
 
-    beside : NoSector mfm s0 track sector → place ≡ secondOf (spanOn mfm s1 track sector)
-    unfolding firstOf
+    beside : NoSector mfm s0 track sector → place ≡ secondPlace (spanOn mfm s1 track sector)
+    unfolding firstPlace
     beside none =
-        searched ∙ ap (λ (s : Span). firstOf s (spanOn mfm s1 track sector)) (no-sector mfm s0 track sector .1 none)
+        searched ∙ ap (λ (s : Span). firstPlace s (spanOn mfm s1 track sector)) (no-sector mfm s0 track sector .1 none)
 
     pub on-one : NoSector mfm s0 track sector
         → (from to a : ℕ) → FirstSector mfm s1 track sector a from to → place ≡ One from to
-    unfolding secondOf
-    on-one none from to a f = beside none ∙ ap secondOf (first-sector mfm s1 track sector from to .1 (a, f))
+    unfolding secondPlace
+    on-one none from to a f = beside none ∙ ap secondPlace (first-sector mfm s1 track sector from to .1 (a, f))
 
     pub on-none : NoSector mfm s0 track sector → NoSector mfm s1 track sector → place ≡ Refused 11
-    unfolding secondOf
-    on-none none other = beside none ∙ ap secondOf (no-sector mfm s1 track sector .1 other)
+    unfolding secondPlace
+    on-none none other = beside none ∙ ap secondPlace (no-sector mfm s1 track sector .1 other)
 
   pub lengths-refused : lengths ≡ false → place ≡ Refused 1
-  unfolding placeOf refusalOf
+  unfolding placeOf viewRefusal
   lengths-refused e = simp e
 
   pub cells-refused : lengths ≡ true → cells ≡ false → place ≡ Refused 4
-  unfolding placeOf refusalOf
+  unfolding placeOf viewRefusal
   cells-refused e f = simp (e, f)
 
   -- ---- every case is one of these

@@ -7,7 +7,7 @@ use lib.ListN.{length}
 use Rattle.scan.specs.declared.DataMark.{DataMark}
 use Rattle.scan.specs.Marks.{leadOf}
 use Rattle.scan.specs.Streams.{IdAt, idFrom, idWidth, crcFrom}
-use Rattle.codes.specs.Sizes.{sizeOf}
+use Rattle.command.specs.Sizes.{sizeOf}
 use Rattle.fields.specs.Rings.{cellsOf}
 use Rattle.fields.specs.Rounds.{FirstMark}
 
@@ -18,7 +18,7 @@ pub record SectorAt (mfm : Bool) (side : List ℕ) (track sector a from to : ℕ
   pub good : idFrom mfm (cellsOf side) a .good ≡ true
   pub of-track : idFrom mfm (cellsOf side) a .track ≡ track
   pub of-sector : idFrom mfm (cellsOf side) a .sector ≡ sector
-  -- the first data mark of the window, which begins behind the ID's last cell; the data cells begin behind its byte
+  -- the first data mark of the window, which begins after the ID's last cell; the data cells begin after its byte
   pub mark : DataMark
   pub at : ℕ
   pub cell : ℕ

@@ -9,7 +9,7 @@ use Rattle.scan.specs.Marks.{byteOf, markCrc}
 use Rattle.scan.specs.DataMarks.{markByte}
 use Rattle.scan.specs.declared.Id.{Id}
 use Rattle.scan.specs.declared.DataMark.{DataMark}
-use Rattle.codes.specs.Sizes.{sizeOf}
+use Rattle.command.specs.Sizes.{sizeOf}
 use Rattle.fields.specs.Rings.{cellsOf}
 use Rattle.fields.specs.Ids.{nextId}
 use Rattle.fields.specs.DataMarks.{markBehind}
@@ -31,7 +31,7 @@ spanFrom mfm row mark from to =
     cond (ltb (length row) (to + 2)) Nowhere
     (cond (eqb (registerOver row (markCrc mfm (markByte mark)) from (to + 2 - from)) 0) (Cells from to) Nowhere)
 
--- "mark in its window": the data cells stand behind it
+-- "mark in its window": the data cells stand after it
 unfoldable pub spanMarked : Bool → List ℕ → ℕ → ℕ → Behind → Span
 spanMarked mfm row size place behind.Nothing = Nowhere
 spanMarked mfm row size place (behind.Mark mark cell) = spanFrom mfm row mark (place + cell) (place + cell + size)
@@ -48,7 +48,7 @@ spanIn mfm row track sector found.Nothing = Nowhere
 spanIn mfm row track sector (found.At id place) =
     cond (wantedOf id track sector) (spanBehind mfm row (id .length) place) Nowhere
 
--- the search goes on behind the ID that was found, or ends
+-- the search goes on after the ID that was found, or ends
 unfoldable pub behindIn : Found → ℕ → ℕ
 behindIn found.Nothing to = to
 behindIn (found.At id place) to = place

@@ -17,42 +17,42 @@ cellsWithin [] = true
 cellsWithin (cell ∷ row) = leb cell 511 && cellsWithin row
 
 -- "Lowest first": 1, "a length outside 2,048..6,400 .. in the viewer", before 4, "any cell lent to the viewer, is above 511"
-unfoldable pub refusalOf : List ℕ → List ℕ → ℕ
-refusalOf s0 s1 =
+unfoldable pub viewRefusal : List ℕ → List ℕ → ℕ
+viewRefusal s0 s1 =
     cond (lengthWithin (length s0) && lengthWithin (length s1)) (cond (cellsWithin s0 && cellsWithin s1) 0 4) 1
 
 -- 11: "the viewer finds no such sector"
-unfoldable pub secondOf : Span → Place
-secondOf Nowhere = Refused 11
-secondOf (Cells from to) = One from to
+unfoldable pub secondPlace : Span → Place
+secondPlace Nowhere = Refused 11
+secondPlace (Cells from to) = One from to
 
 -- "Side 0 before side 1"
-unfoldable pub firstOf : Span → Span → Place
-firstOf Nowhere other = secondOf other
-firstOf (Cells from to) other = Zero from to
+unfoldable pub firstPlace : Span → Span → Place
+firstPlace Nowhere other = secondPlace other
+firstPlace (Cells from to) other = Zero from to
 
 unfoldable pub placeOf : List ℕ → List ℕ → Bool → ℕ → ℕ → Place
 placeOf s0 s1 mfm track sector =
-    cond (eqb (refusalOf s0 s1) 0)
-    (firstOf (spanOn mfm s0 track sector) (spanOn mfm s1 track sector))
-    (Refused (refusalOf s0 s1))
+    cond (eqb (viewRefusal s0 s1) 0)
+    (firstPlace (spanOn mfm s0 track sector) (spanOn mfm s1 track sector))
+    (Refused (viewRefusal s0 s1))
 
 -- the cells of a side from one up to another
 abbrev pub partOf : List ℕ → ℕ → ℕ → List ℕ
 partOf side from to = take (to - from) (drop from side)
 
 -- "hands back the data cells": as they are, flags included; and none where it refuses
-unfoldable pub viewOf : Place → List ℕ → List ℕ → List ℕ
-viewOf (Zero from to) s0 s1 = partOf s0 from to
-viewOf (One from to) s0 s1 = partOf s1 from to
-viewOf (Refused number) s0 s1 = []
+unfoldable pub partCells : Place → List ℕ → List ℕ → List ℕ
+partCells (Zero from to) s0 s1 = partOf s0 from to
+partCells (One from to) s0 s1 = partOf s1 from to
+partCells (Refused number) s0 s1 = []
 
 -- "as a part of the side they stand on": the block of memory and the byte in it at which the part starts, two bytes to a
 -- cell. "An empty part is of side 0".
-unfoldable pub startOf : Place → ℕ × ℕ → ℕ × ℕ → ℕ × ℕ
-startOf (Zero from to) p0 p1 = (p0 .0, from * 2 + p0 .1)
-startOf (One from to) p0 p1 = (p1 .0, from * 2 + p1 .1)
-startOf (Refused number) p0 p1 = (p0 .0, 0 + p0 .1)
+unfoldable pub partStart : Place → ℕ × ℕ → ℕ × ℕ → ℕ × ℕ
+partStart (Zero from to) p0 p1 = (p0 .0, from * 2 + p0 .1)
+partStart (One from to) p0 p1 = (p1 .0, from * 2 + p1 .1)
+partStart (Refused number) p0 p1 = (p0 .0, 0 + p0 .1)
 
 -- "the number is a call of its own on the same input"
 abbrev pub numberOf : Place → ℕ

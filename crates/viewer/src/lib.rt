@@ -5,7 +5,7 @@ ghost use Prim.Native.Nat.{_-_};
 ghost use lib.ListN.{length};
 ghost use Rattle.scan.specs.Rows.{lengthWithin};
 ghost use Rattle.viewer.specs.Sectors.{registerOver, spanBehind, spanIn, behindIn, spanOn};
-ghost use Rattle.viewer.specs.Views.{cellsWithin, refusalOf, secondOf, placeOf, viewOf, startOf, numberOf};
+ghost use Rattle.viewer.specs.Views.{cellsWithin, viewRefusal, secondPlace, placeOf, partCells, partStart, numberOf};
 use fields::Behind;
 use fields::Found;
 
@@ -35,7 +35,7 @@ fn register(side: &[u16], crc: u16, from: usize, to: usize) -> u16
     register
 }
 
-// The data cells behind an ID with this length byte, if the ID has a data mark and a good data field before the side's end.
+// The data cells after an ID with this length byte, if the ID has a data mark and a good data field before the side's end.
 fn span_behind(side: &[u16], mfm: bool, length: u8, behind: u32) -> Span
     ensures { λ r. ⌜ r ≡ spanBehind mfm (now (side .entry)) length behind ⌝ }
 {
@@ -43,7 +43,7 @@ fn span_behind(side: &[u16], mfm: bool, length: u8, behind: u32) -> Span
         Behind::Nothing => Span::Nowhere,
         Behind::Mark { mark, cell } => {
             let from = behind as usize + cell as usize;
-            let to = from + codes::size(length) as usize;
+            let to = from + command::sizes::size(length) as usize;
             if side.len() < to + 2 {
                 return Span::Nowhere;
             }
@@ -71,7 +71,7 @@ fn span_in(side: &[u16], mfm: bool, found: Found, track: u8, sector: u8) -> Span
     }
 }
 
-// Where the search for IDs goes on: behind the one that was found, or nowhere.
+// Where the search for IDs goes on: after the one that was found, or nowhere.
 fn behind_in(found: Found, to: u32) -> u32
     ensures { λ r. ⌜ r ≡ behindIn found to ⌝ }
 {
@@ -117,7 +117,7 @@ fn cells_within(side: &[u16]) -> bool
 
 // 1, then 4; 0 where the sides may be searched.
 fn refusal(side0: &[u16], side1: &[u16]) -> u8
-    ensures { λ r. ⌜ r ≡ refusalOf (now (side0 .entry)) (now (side1 .entry)) ⌝ }
+    ensures { λ r. ⌜ r ≡ viewRefusal (now (side0 .entry)) (now (side1 .entry)) ⌝ }
 {
     if scan::length_within(side0.len()) & scan::length_within(side1.len()) {
         if cells_within(side0) & cells_within(side1) {
@@ -131,7 +131,7 @@ fn refusal(side0: &[u16], side1: &[u16]) -> u8
 // Side 1, where side 0 has no such sector.
 fn second(side1: &[u16], mfm: bool, track: u8, sector: u8) -> Place
     requires { ⌜ lengthWithin (length (now side1)) ≡ true ⌝ }
-    ensures { λ r. ⌜ r ≡ secondOf (spanOn mfm (now (side1 .entry)) track sector) ⌝ }
+    ensures { λ r. ⌜ r ≡ secondPlace (spanOn mfm (now (side1 .entry)) track sector) ⌝ }
 {
     match span_on(side1, mfm, track, sector) {
         Span::Nowhere => Place::Refused { number: 11 },
@@ -155,8 +155,8 @@ pub fn find(side0: &[u16], side1: &[u16], mfm: bool, track: u8, sector: u8) -> P
 
 // The sector's data cells as they stand there; an empty part of side 0 where the viewer refuses.
 pub fn view<'a>(side0: &'a [u16], side1: &'a [u16], mfm: bool, track: u8, sector: u8) -> &'a [u16]
-    ensures { λ r. ⌜ now r ≡ viewOf (placeOf (now (side0 .entry)) (now (side1 .entry)) mfm track sector) (now (side0 .entry)) (now (side1 .entry)) ⌝ }
-    ensures { λ r. ⌜ r .ptr ≡ startOf (placeOf (now (side0 .entry)) (now (side1 .entry)) mfm track sector) (side0 .entry .ptr) (side1 .entry .ptr) ⌝ }
+    ensures { λ r. ⌜ now r ≡ partCells (placeOf (now (side0 .entry)) (now (side1 .entry)) mfm track sector) (now (side0 .entry)) (now (side1 .entry)) ⌝ }
+    ensures { λ r. ⌜ r .ptr ≡ partStart (placeOf (now (side0 .entry)) (now (side1 .entry)) mfm track sector) (side0 .entry .ptr) (side1 .entry .ptr) ⌝ }
 {
     match find(side0, side1, mfm, track, sector) {
         Place::Zero { from, to } => {

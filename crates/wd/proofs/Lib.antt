@@ -2,4 +2,4 @@
 pub mod Valid
 pub mod Runs
 pub mod Stretches
-pub mod Handed
+pub mod Transferred

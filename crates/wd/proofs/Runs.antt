@@ -11,11 +11,11 @@ use lib.ListN.{length}
 use borrow.Author.Tests.{eqb-true, eqb-false, not-false, eq-eqb, ne-eqb}
 use Rattle.common.proofs.Cases.{neither}
 use Rattle.wd.proofs.Valid.{row-length, pass-open}
-use Rattle.chip.specs.declared.Lines.{Lines}
+use Rattle.registers.specs.declared.Lines.{Lines}
 use Rattle.wd.specs.declared.Machine.{Machine}
 use Rattle.wd.specs.declared.Passed.{Passed}
 use Rattle.wd.specs.declared.Ran.{Ran}
-use Rattle.wd.specs.Rows.{rowRefusal, passedOf, rowOf, ranTo, emptyRun, stopsAt, Run, nextIn, onward, runsOn, runFrom}
+use Rattle.wd.specs.Rows.{rowRefusal, byteTime, byteTimeRow, ranTo, emptyRun, stopsAt, Run, nextIn, onward, runsOn, runFrom}
 
 abbrev pub at : Ran → List ℕ → Run
 at ran row = record { ran = ran; row = row }
@@ -96,7 +96,7 @@ starts l m limit ran row e h k =
 
 -- a turn of the loop, as its body's calls say it
 module _ (l : Lines) (ran : Ran) (row : List ℕ) (passed : Passed) (row′ : List ℕ) (ran′ : Ran)
-    (hp : passed ≡ passedOf (ran .machine) l row) (hr : row′ ≡ rowOf (ran .machine) l row) (hn : ran′ ≡ ranTo (ran .tally) passed) where
+    (hp : passed ≡ byteTime (ran .machine) l row) (hr : row′ ≡ byteTimeRow (ran .machine) l row) (hn : ran′ ≡ ranTo (ran .tally) passed) where
   turned : onward l (at ran row) ≡ at ran′ row′
   unfolding onward
   turned = sym (ap₂ at (hn ∙ ap (ranTo (ran .tally)) hp) hr)

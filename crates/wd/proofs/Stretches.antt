@@ -15,34 +15,34 @@ use Rattle.activity.specs.Limits.{busyIn}
 use Rattle.activity.specs.declared.Act.{Act}
 use Rattle.activity.specs.declared.Activity.{Activity}
 use Rattle.activity.specs.declared.Deed.the-variants.{Nothing}
-use Rattle.deeds.specs.Deeds.{regsAfter, drqAfter, flagsAfter, headAfter, pulseOf}
-use Rattle.chip.specs.Rings.{nextOf, seenOf, toldOf}
-use Rattle.chip.specs.declared.Conditions.{Conditions}
-use Rattle.chip.specs.declared.Lines.{Lines}
-use Rattle.chip.specs.declared.Pulse.the-variants as pulse
-use Rattle.chip.specs.declared.Ring.{Ring}
+use Rattle.effects.specs.Effects.{effectOf}
+use Rattle.registers.specs.Rings.{ringNext, seenOf, conditionMet}
+use Rattle.registers.specs.declared.Conditions.{Conditions}
+use Rattle.registers.specs.declared.Lines.{Lines}
+use Rattle.registers.specs.declared.Pulse.the-variants as pulse
+use Rattle.registers.specs.declared.Ring.{Ring}
 use Rattle.act.specs.Turns.{actOf}
-use Rattle.stretch.specs.Stretches.{laterOf, aheadOf}
+use Rattle.stretch.specs.Stretches.{activityAfter, stretchAhead}
 use Rattle.stretch.proofs.Passing.{Passes, ahead-passes}
 use Rattle.stretch.proofs.Stretching.{busy-later, later-none}
 use Rattle.wd.specs.declared.Machine.{Machine}
 use Rattle.wd.specs.declared.Passed.{Passed}
 use Rattle.wd.specs.declared.Ran.{Ran}
-use Rattle.wd.specs.Turns.{appliedOf, seesOf, doesOf, turnedOf}
-use Rattle.wd.specs.Rows.{rowRefusal, under, refusedAt, doneBy, passedOf, rowOf, tallied, countedOf, ranTo, emptyRun, stopsAt, Run, onward, runsOn}
-use Rattle.wd.specs.Stretches.{stretchedOf, firstOf, ranOn}
+use Rattle.wd.specs.Turns.{actApplied, seesOf, doesOf, cellTurn}
+use Rattle.wd.specs.Rows.{rowRefusal, under, refusedAt, doneBy, byteTime, byteTimeRow, tallied, countedOf, ranTo, emptyRun, stopsAt, Run, onward, runsOn}
+use Rattle.wd.specs.Stretches.{afterStretch, firstStretch, ranOn}
 use Rattle.wd.proofs.Valid.{Held, valid-ring, open-row, pass-open}
 use Rattle.wd.proofs.Runs.{at, no-more, Along, starts}
 
 -- ---- one byte time
 
 -- with no edge of Ready and no pulse no condition is met
-told-none : (k : Conditions) (ready : Bool) → toldOf k ready ready false ≡ false
-unfolding toldOf
+told-none : (k : Conditions) (ready : Bool) → conditionMet k ready ready false ≡ false
+unfolding conditionMet
 told-none k true = simp (and-false, or-false)
 told-none k false = simp (and-false, or-false)
 
--- the machine behind a byte time in which the activity alone is another
+-- the machine after a byte time in which the activity alone is another
 abbrev movedOf : Machine → Bool → Activity → Machine
 movedOf m ready a =
     record {
@@ -58,8 +58,8 @@ movedOf m ready a =
       activity = a;
     }
 
-next-plain : (r : Ring) → r .position + 1 < r .length → nextOf r ≡ record { length = r .length; position = r .position + 1 }
-unfolding nextOf
+next-plain : (r : Ring) → r .position + 1 < r .length → ringNext r ≡ record { length = r .length; position = r .position + 1 }
+unfolding ringNext
 next-plain r h =
     let apart : (r .position + 1 ≡ r .length) → ⊥ = λ z. absurd (omega arith) in
     rw (lt-ltb (r .position) (r .length) (omega arith), ne-eqb (r .position + 1) (r .length) apart)
@@ -72,24 +72,18 @@ module _ (m : Machine) (l : Lines) (cell : ℕ) (a : Activity)
 
   no-wire :
       (m .wires .intrq
-      || toldOf (m .conditions) (m .past .ready) (l .ready) (eqb (m .ring .position) 0)
+      || conditionMet (m .conditions) (m .past .ready) (l .ready) (eqb (m .ring .position) 0)
       || (busyIn (m .activity) && not (busyIn a)))
       ≡ m .wires .intrq
   no-wire =
       rw (busy, no-pulse, seen) (simp (told-none (m .conditions) (l .ready), and-not-self (busyIn (m .activity)), or-false))
 
-  applied-still : appliedOf m (pass (seesOf m l cell) a Nothing) (l .ready) (seesOf m l cell .index) ≡ movedOf m (l .ready) a
-  unfolding seenOf appliedOf regsAfter drqAfter flagsAfter headAfter
-  applied-still = rw (next-plain (m .ring) inside, no-wire, no-pulse) refl
-
   turned-still : doesOf m l cell ≡ pass (seesOf m l cell) a Nothing
-      → turnedOf m l cell ≡ record { machine = movedOf m (l .ready) a; cell = cell; pulse = pulse.Off }
-  unfolding turnedOf pulseOf seenOf
+      → cellTurn m l cell ≡ record { machine = movedOf m (l .ready) a; cell = cell; pulse = pulse.Off }
+  unfolding cellTurn seenOf actApplied effectOf
   turned-still does =
-      ap
-      (λ (act : Act). record { machine = appliedOf m act (l .ready) (seesOf m l cell .index); cell = act .cell; pulse = pulseOf (act .deed) })
-      does
-      ∙ ap (λ (n : Machine). record { machine = n; cell = cell; pulse = pulse.Off }) applied-still
+      ap (λ (act : Act). actApplied m act (l .ready) (seesOf m l cell .index)) does
+      ∙ rw (next-plain (m .ring) inside, no-wire, no-pulse) refl
 
 -- ---- a byte time of a run
 
@@ -101,7 +95,7 @@ pub record Quiet (l : Lines) (ran : Ran) (row : List ℕ) : Type 0 where
   pub intrq : ran .machine .wires .intrq ≡ false
   pub seen : ran .machine .past .ready ≡ l .ready
 
--- one byte time more, with the machine behind it
+-- one byte time more, with the machine after it
 abbrev stepped : Ran → Machine → Ran
 stepped ran m =
     record {
@@ -117,21 +111,21 @@ module _ (l : Lines) (ran : Ran) (row : List ℕ) (quiet : Quiet l ran row) (a :
   abbrev m : Machine
   m = ran .machine
 
-  turns : turnedOf m l (under m row) ≡ record { machine = movedOf m (l .ready) a; cell = under m row; pulse = pulse.Off }
+  turns : cellTurn m l (under m row) ≡ record { machine = movedOf m (l .ready) a; cell = under m row; pulse = pulse.Off }
   turns = turned-still m l (under m row) a some inside (quiet .seen) busy does
 
   low : ltb 511 (under m row) ≡ false
   low = le-ltb 511 (under m row) (omega (arith, taken))
 
-  passed-still : passedOf m l row ≡ record { number = 0; pulse = pulse.Off; machine = movedOf m (l .ready) a }
-  unfolding passedOf doneBy
+  passed-still : byteTime m l row ≡ record { number = 0; pulse = pulse.Off; machine = movedOf m (l .ready) a }
+  unfolding byteTime doneBy
   passed-still = rw (eq-eqb _ 0 (quiet .opens), low, turns) refl
 
-  row-still : rowOf m l row ≡ row
-  unfolding rowOf
+  row-still : byteTimeRow m l row ≡ row
+  unfolding byteTimeRow
   row-still = rw (eq-eqb _ 0 (quiet .opens), low, turns) (set-getD row (m .ring .position) 0)
 
-  stops-still : stopsAt (passedOf m l row) ≡ false
+  stops-still : stopsAt (byteTime m l row) ≡ false
   unfolding stopsAt
   stops-still = rw passed-still (rw (quiet .drq, quiet .intrq) refl)
 
@@ -153,10 +147,10 @@ module _ (l : Lines) (ran : Ran) (row : List ℕ) (quiet : Quiet l ran row) (lim
   abbrev base : Machine
   base = ran .machine
 
-  -- the machine and the run behind i byte times of the stretch
+  -- the machine and the run after i byte times of the stretch
   machine-behind : ℕ → Machine
   machine-behind zero = base
-  machine-behind (suc i) = stretchedOf base (suc i) (l .ready)
+  machine-behind (suc i) = afterStretch base (suc i) (l .ready)
 
   abbrev behind : ℕ → Ran
   behind i =
@@ -180,22 +174,22 @@ module _ (l : Lines) (ran : Ran) (row : List ℕ) (quiet : Quiet l ran row) (lim
   behind-is (suc i) = rw (ne-eqb (suc i) 0 (λ z. absurd (omega arith)), quiet .done) refl
 
   ring-behind : (i : ℕ) → machine-behind i .ring ≡ record { length = base .ring .length; position = base .ring .position + i }
-  unfolding stretchedOf machine-behind
+  unfolding afterStretch machine-behind
   ring-behind zero =
       let none : base .ring .position ≡ base .ring .position + 0 = omega arith in
       ap (λ (p : ℕ). record { length = base .ring .length; position = p }) none
   ring-behind (suc i) = refl
 
-  activity-behind : (i : ℕ) → machine-behind i .activity ≡ laterOf i (base .activity)
-  unfolding stretchedOf machine-behind
+  activity-behind : (i : ℕ) → machine-behind i .activity ≡ activityAfter i (base .activity)
+  unfolding afterStretch machine-behind
   activity-behind zero = sym (later-none (base .activity))
   activity-behind (suc i) = refl
 
   abbrev moved : ℕ → Machine
-  moved i = movedOf (machine-behind i) (l .ready) (laterOf (suc i) (base .activity))
+  moved i = movedOf (machine-behind i) (l .ready) (activityAfter (suc i) (base .activity))
 
   moves : (i : ℕ) → moved i ≡ machine-behind (suc i)
-  unfolding stretchedOf machine-behind
+  unfolding afterStretch machine-behind
   moves zero = refl
   moves (suc i) =
       let one : base .ring .position + suc i + 1 ≡ base .ring .position + suc (suc i) = omega arith in
@@ -210,7 +204,7 @@ module _ (l : Lines) (ran : Ran) (row : List ℕ) (quiet : Quiet l ran row) (lim
         past = record { ready = l .ready; index = false };
         conditions = base .conditions;
         order = base .order;
-        activity = laterOf (suc (suc i)) (base .activity);
+        activity = activityAfter (suc (suc i)) (base .activity);
       })
       one
 
@@ -238,14 +232,14 @@ module _ (l : Lines) (ran : Ran) (row : List ℕ) (quiet : Quiet l ran row) (lim
     inside : here .ring .position + 1 < here .ring .length
     inside = rw (ring-behind i) (omega (arith, passes .inside))
 
-    busy : busyIn (laterOf (suc i) (base .activity)) ≡ busyIn (here .activity)
+    busy : busyIn (activityAfter (suc i) (base .activity)) ≡ busyIn (here .activity)
     busy =
         busy-later (suc i) (base .activity) ∙ sym (busy-later i (base .activity)) ∙ ap busyIn (sym (activity-behind i))
 
     cell : under here row ≡ getD row (base .ring .position + i) 0
     cell = ap (λ (p : ℕ). getD row p 0) place
 
-    does : doesOf here l (under here row) ≡ pass (seesOf here l (under here row)) (laterOf (suc i) (base .activity)) Nothing
+    does : doesOf here l (under here row) ≡ pass (seesOf here l (under here row)) (activityAfter (suc i) (base .activity)) Nothing
     unfolding seenOf
     does =
         ap (actOf (here .order) (seesOf here l (under here row))) (activity-behind i)
@@ -255,13 +249,13 @@ module _ (l : Lines) (ran : Ran) (row : List ℕ) (quiet : Quiet l ran row) (lim
 
     on : (n : ℕ) → runsOn (suc n) l (at (behind i) row) ≡ runsOn n l (at (behind (suc i)) row)
     on n =
-        run-still l (behind i) row still (laterOf (suc i) (base .activity)) some inside busy (rw cell (passes .taken i less)) does n
+        run-still l (behind i) row still (activityAfter (suc i) (base .activity)) some inside busy (rw cell (passes .taken i less)) does n
         ∙ ap (λ (r : Ran). runsOn n l (at r row)) (steps i)
 
     opens : rowRefusal (moved i) (length row) ≡ 0
     opens =
-        let p = passed-still l (behind i) row still (laterOf (suc i) (base .activity)) some inside busy (rw cell (passes .taken i less)) does in
-        let r = row-still l (behind i) row still (laterOf (suc i) (base .activity)) some inside busy (rw cell (passes .taken i less)) does in
+        let p = passed-still l (behind i) row still (activityAfter (suc i) (base .activity)) some inside busy (rw cell (passes .taken i less)) does in
+        let r = row-still l (behind i) row still (activityAfter (suc i) (base .activity)) some inside busy (rw cell (passes .taken i less)) does in
         ap₂ (λ (p : Passed) (r : List ℕ). rowRefusal (p .machine) (length r)) (sym p) (sym r) ∙ pass-open here l row (still .opens)
 
     quiet-on : Quiet l (behind (suc i)) row
@@ -286,7 +280,7 @@ module _ (l : Lines) (ran : Ran) (row : List ℕ) (quiet : Quiet l ran row) (lim
   pub stretch-runs : (n : ℕ) → runsOn (n + k) l (at ran row) ≡ runsOn n l (at (ranOn ran k (l .ready)) row)
   stretch-runs n = along k (omega arith) .1 n ∙ ap (λ (r : Ran). runsOn n l (at r row)) (sym (behind-is k))
 
-  -- and may go on behind it
+  -- and may go on after it
   pub stretch-opens : rowRefusal (ranOn ran k (l .ready) .machine) (length row) ≡ 0
   stretch-opens = ap (λ (r : Ran). rowRefusal (r .machine) (length row)) (behind-is k) ∙ along k (omega arith) .0 .opens
 
@@ -302,12 +296,12 @@ tally-on ran zero ready =
     ap (λ (n : ℕ). record { passed = n; inward = ran .tally .inward; outward = ran .tally .outward }) none
 tally-on ran (suc k) ready = rw (ne-eqb (suc k) 0 (λ z. absurd (omega arith)))
 
--- behind a byte time that has not stopped the run
+-- after a byte time that has not stopped the run
 after-pass :
     (m : Machine) (l : Lines) (row : List ℕ)
-    → passedOf m l row .number ≡ 0
-    → passedOf m l row .machine .past .ready ≡ l .ready
-unfolding passedOf refusedAt doneBy turnedOf appliedOf
+    → byteTime m l row .number ≡ 0
+    → byteTime m l row .machine .past .ready ≡ l .ready
+unfolding byteTime refusedAt doneBy cellTurn actApplied
 after-pass m l row =
     by-cond (λ (p : Passed). p .number ≡ 0 → p .machine .past .ready ≡ l .ready) (eqb (rowRefusal m (length row)) 0)
     (λ e.
@@ -326,7 +320,7 @@ goes-on p e =
 -- so nothing keeps a stretch from coming next
 pub quiet-after :
     (l : Lines) (ran : Ran) (row : List ℕ) (passed : Passed) (next : Ran) (row′ : List ℕ)
-    → passed ≡ passedOf (ran .machine) l row
+    → passed ≡ byteTime (ran .machine) l row
     → next ≡ ranTo (ran .tally) passed
     → stopsAt passed ≡ false
     → rowRefusal (next .machine) (length row′) ≡ 0
@@ -359,17 +353,17 @@ begins false false false false k n e more = (refl, refl, refl, e)
 pub quiet-first :
     (l : Lines) (m : Machine) (limit : ℕ) (row : List ℕ) (k : ℕ)
     → rowRefusal m (length row) ≡ 0
-    → k ≡ firstOf m (l .ready) limit row
+    → k ≡ firstStretch m (l .ready) limit row
     → 0 < k
-    → Quiet l (emptyRun 0 m) row × (k ≡ aheadOf (m .ring) (m .activity) limit row)
-unfolding firstOf emptyRun
+    → Quiet l (emptyRun 0 m) row × (k ≡ stretchAhead (m .ring) (m .activity) limit row)
+unfolding firstStretch emptyRun
 quiet-first l m limit row k opens hk more =
-    let b = begins (m .wires .drq) (m .wires .intrq) (m .past .ready) (l .ready) k (aheadOf (m .ring) (m .activity) limit row) hk more in
+    let b = begins (m .wires .drq) (m .wires .intrq) (m .past .ready) (l .ready) k (stretchAhead (m .ring) (m .activity) limit row) hk more in
     (record { opens = opens; done = refl; drq = b .0; intrq = b .1; seen = b .2 }, b .3)
 
 -- a run that a stretch comes next in, or none
 module _ (l : Lines) (next : Ran) (row′ : List ℕ) (whole : ℕ) (start : Run) (left : ℕ) (v : Along l whole start left next row′)
-    (k : ℕ) (comes : 0 < k → Quiet l next row′ × (k ≡ aheadOf (next .machine .ring) (next .machine .activity) left row′)) where
+    (k : ℕ) (comes : 0 < k → Quiet l next row′ × (k ≡ stretchAhead (next .machine .ring) (next .machine .activity) left row′)) where
   passes-next : 0 < k → Passes (next .machine .ring) (next .machine .activity) left row′ k
   passes-next more =
       let hk = comes more .1 in
@@ -406,7 +400,7 @@ module _ (l : Lines) (next : Ran) (row′ : List ℕ) (whole : ℕ) (start : Run
           ap (λ (n : ℕ). runsOn n l (at next row′)) all
           ∙ stretch-runs l next row′ (comes (omega arith) .0) left k (passes-next (omega arith)) (left - k)
 
-  -- the run goes on behind the stretch as it would have gone on byte time by byte time
+  -- the run goes on after the stretch as it would have gone on byte time by byte time
   pub stretch-along : k ≤ left → (ran″ : Ran) (row″ : List ℕ) → ran″ ≡ after → row″ ≡ row′ → Along l whole start (left - k) ran″ row″
   stretch-along most ran″ row″ h same =
       subst (Along l whole start (left - k) ran″) (sym same)
@@ -423,11 +417,11 @@ module _ (l : Lines) (next : Ran) (row′ : List ℕ) (whole : ℕ) (start : Run
 -- ---- where a run begins
 
 module _ (l : Lines) (m : Machine) (limit : ℕ) (row : List ℕ) (opens : rowRefusal m (length row) ≡ 0) (fits : limit < 65536)
-    (ran : Ran) (e : ran ≡ emptyRun 0 m) (k : ℕ) (hk : k ≡ firstOf m (l .ready) limit row) (most : k ≤ limit) where
+    (ran : Ran) (e : ran ≡ emptyRun 0 m) (k : ℕ) (hk : k ≡ firstStretch m (l .ready) limit row) (most : k ≤ limit) where
   begun : Along l limit (at ran row) limit ran row
   begun = starts l m limit ran row e opens fits
 
-  comes : 0 < k → Quiet l ran row × (k ≡ aheadOf (ran .machine .ring) (ran .machine .activity) limit row)
+  comes : 0 < k → Quiet l ran row × (k ≡ stretchAhead (ran .machine .ring) (ran .machine .activity) limit row)
   unfolding emptyRun
   comes more = rw e (quiet-first l m limit row k opens hk more)
 
@@ -438,7 +432,7 @@ module _ (l : Lines) (m : Machine) (limit : ℕ) (row : List ℕ) (opens : rowRe
   pub first-along : (ran′ : Ran) (row′ : List ℕ) → ran′ ≡ ranOn ran k (l .ready) → row′ ≡ row → Along l limit (at ran row) (limit - k) ran′ row′
   first-along = stretch-along l ran row limit (at ran row) limit begun k comes most
 
-  -- the run goes on behind it
+  -- the run goes on after it
   pub first-run :
       (ran′ : Ran) (row′ : List ℕ)
       → ran′ ≡ ranOn ran k (l .ready)

@@ -2,16 +2,16 @@
 use mathlib.Core.Bool.{cond, _&&_}
 use Prim.Native.Nat.{ℕ}
 use lib.Dec.{eqb}
-use Rattle.chip.specs.declared.Regs.{Regs}
-use Rattle.chip.specs.declared.Wires.{Wires}
-use Rattle.chip.specs.declared.Lines.{Lines}
+use Rattle.registers.specs.declared.Regs.{Regs}
+use Rattle.registers.specs.declared.Wires.{Wires}
+use Rattle.registers.specs.declared.Lines.{Lines}
 use Rattle.wd.specs.declared.Machine.{Machine}
-use Rattle.chip.specs.declared.Status.{Status}
+use Rattle.registers.specs.declared.Status.{Status}
 use Rattle.wd.specs.declared.Read.{Read}
 use Rattle.wd.specs.Machines.{validOf}
-use Rattle.chip.specs.Status.{type1Of, type2Of, statusFrom}
+use Rattle.registers.specs.Status.{type1Of, type2Of, statusFrom}
 use Rattle.activity.specs.Limits.{busyIn}
-use Rattle.chip.specs.Registers.{readRefusal, readByte, readWires}
+use Rattle.registers.specs.Registers.{readRefusal, readByte, readWires}
 
 -- the status byte of a machine under these lines; looking at it changes nothing
 unfoldable pub statusOf : Machine → Lines → Status
@@ -37,8 +37,8 @@ withBus m r w =
     }
 
 -- a refused read: "as given, byte 0"
-unfoldable pub readOf : Machine → Lines → ℕ → Read
-readOf m l number =
+unfoldable pub readRegister : Machine → Lines → ℕ → Read
+readRegister m l number =
     cond (eqb (readRefusal (validOf m) number) 0)
     (record {
       number = 0;

@@ -4,16 +4,16 @@ use mathlib.Core.List.{List}
 use Prim.Native.Nat.{ℕ, zero, suc, _+_}
 use lib.Dec.{ltb, eqb}
 use lib.ListN.{length, getD, set}
-use Rattle.chip.specs.declared.Lines.{Lines}
+use Rattle.registers.specs.declared.Lines.{Lines}
 use Rattle.wd.specs.declared.Machine.{Machine}
 use Rattle.wd.specs.declared.Turn.{Turn}
-use Rattle.chip.specs.declared.Pulse.{Pulse}
-use Rattle.chip.specs.declared.Pulse.the-variants as pulse
+use Rattle.registers.specs.declared.Pulse.{Pulse}
+use Rattle.registers.specs.declared.Pulse.the-variants as pulse
 use Rattle.wd.specs.declared.Passed.{Passed}
 use Rattle.wd.specs.declared.Tally.{Tally}
 use Rattle.wd.specs.declared.Ran.{Ran}
 use Rattle.wd.specs.Machines.{validOf}
-use Rattle.wd.specs.Turns.{turnedOf}
+use Rattle.wd.specs.Turns.{cellTurn}
 
 -- 2, and 3: "lent track is not L cells"
 unfoldable pub rowRefusal : Machine → ℕ → ℕ
@@ -31,17 +31,17 @@ unfoldable pub doneBy : Turn → Passed
 doneBy t = record { number = 0; pulse = t .pulse; machine = t .machine }
 
 -- 4: "the cell under the head .. is above 511"
-unfoldable pub passedOf : Machine → Lines → List ℕ → Passed
-passedOf m l row =
+unfoldable pub byteTime : Machine → Lines → List ℕ → Passed
+byteTime m l row =
     cond (eqb (rowRefusal m (length row)) 0)
-    (cond (ltb 511 (under m row)) (refusedAt 4 m) (doneBy (turnedOf m l (under m row))))
+    (cond (ltb 511 (under m row)) (refusedAt 4 m) (doneBy (cellTurn m l (under m row))))
     (refusedAt (rowRefusal m (length row)) m)
 
--- the row behind it: at most the cell under the head is another, and none in a refused byte time
-unfoldable pub rowOf : Machine → Lines → List ℕ → List ℕ
-rowOf m l row =
+-- the row after it: at most the cell under the head is another, and none in a refused byte time
+unfoldable pub byteTimeRow : Machine → Lines → List ℕ → List ℕ
+byteTimeRow m l row =
     cond (eqb (rowRefusal m (length row)) 0)
-    (cond (ltb 511 (under m row)) row (set row (m .ring .position) (turnedOf m l (under m row) .cell)))
+    (cond (ltb 511 (under m row)) row (set row (m .ring .position) (cellTurn m l (under m row) .cell)))
     row
 
 -- ---- runs
@@ -74,12 +74,12 @@ pub record Run : Type 0 where
 
 -- the byte time that comes next in it
 abbrev pub nextIn : Lines → Run → Passed
-nextIn l r = passedOf (r .ran .machine) l (r .row)
+nextIn l r = byteTime (r .ran .machine) l (r .row)
 
 -- one byte time more
 unfoldable pub onward : Lines → Run → Run
 onward l r =
-    record { ran = ranTo (r .ran .tally) (nextIn l r); row = rowOf (r .ran .machine) l (r .row) }
+    record { ran = ranTo (r .ran .tally) (nextIn l r); row = byteTimeRow (r .ran .machine) l (r .row) }
 
 -- "A run call makes byte times up to a lent limit"
 unfoldable pub runsOn : ℕ → Lines → Run → Run
@@ -96,8 +96,8 @@ runFrom m l limit row =
 abbrev pub runOf : Machine → Lines → ℕ → List ℕ → Ran
 runOf m l limit row = runFrom m l limit row .ran
 
-abbrev pub runRowOf : Machine → Lines → ℕ → List ℕ → List ℕ
-runRowOf m l limit row = runFrom m l limit row .row
+abbrev pub runRow : Machine → Lines → ℕ → List ℕ → List ℕ
+runRow m l limit row = runFrom m l limit row .row
 
 -- a run that has come so far, so many byte times further
 abbrev pub furtherOf : Ran → Lines → ℕ → List ℕ → Run

@@ -5,32 +5,42 @@ use Rattle.activity.specs.Limits.{busyIn}
 use Rattle.act.specs.Turns.{actOf}
 use Rattle.activity.specs.declared.Act.{Act}
 use Rattle.activity.specs.declared.Seen.{Seen}
-use Rattle.chip.specs.declared.Lines.{Lines}
+use Rattle.registers.specs.declared.Lines.{Lines}
 use Rattle.wd.specs.declared.Machine.{Machine}
 use Rattle.wd.specs.declared.Turn.{Turn}
-use Rattle.deeds.specs.Deeds.{regsAfter, drqAfter, flagsAfter, headAfter, pulseOf}
-use Rattle.chip.specs.Rings.{nextOf, seenOf, toldOf}
+use Rattle.effects.specs.Effects.{effectOf}
+use Rattle.effects.specs.declared.Parts.{Parts}
+use Rattle.registers.specs.declared.Pulse.the-variants as pulse
+use Rattle.registers.specs.Rings.{ringNext, seenOf, conditionMet}
+
+-- what a deed can change, with no pulse reported yet
+abbrev pub partsOf : Machine → Parts
+partsOf m = record { regs = m .regs; drq = m .wires .drq; flags = m .flags; head = m .head; pulse = pulse.Off }
 
 -- "When it ends by itself, Busy goes off and INTRQ on in that byte time."
-unfoldable pub appliedOf : Machine → Act → Bool → Bool → Machine
-appliedOf m a ready index =
+unfoldable pub actApplied : Machine → Act → Bool → Bool → Turn
+actApplied m a ready index =
     record {
-      ring = nextOf (m .ring);
-      mfm = m .mfm;
-      regs = regsAfter (m .regs) (a .deed);
-      wires = record {
-        drq = drqAfter (m .wires .drq) (a .deed);
-        intrq =
-            m .wires .intrq
-            || toldOf (m .conditions) (m .past .ready) ready index
-            || (busyIn (m .activity) && not (busyIn (a .next)));
+      machine = record {
+        ring = ringNext (m .ring);
+        mfm = m .mfm;
+        regs = effectOf (partsOf m) (a .deed) .regs;
+        wires = record {
+          drq = effectOf (partsOf m) (a .deed) .drq;
+          intrq =
+              m .wires .intrq
+              || conditionMet (m .conditions) (m .past .ready) ready index
+              || (busyIn (m .activity) && not (busyIn (a .next)));
+        };
+        flags = effectOf (partsOf m) (a .deed) .flags;
+        head = effectOf (partsOf m) (a .deed) .head;
+        past = record { ready = ready; index = index };
+        conditions = m .conditions;
+        order = m .order;
+        activity = a .next;
       };
-      flags = flagsAfter (m .flags) (m .wires .drq) (a .deed);
-      head = headAfter (m .head) (a .deed);
-      past = record { ready = ready; index = index };
-      conditions = m .conditions;
-      order = m .order;
-      activity = a .next;
+      cell = a .cell;
+      pulse = effectOf (partsOf m) (a .deed) .pulse;
     }
 
 -- what the machine sees and does over a cell
@@ -40,10 +50,5 @@ seesOf m l cell = seenOf (m .mfm) (m .ring) (m .regs) (m .wires .drq) l cell
 abbrev pub doesOf : Machine → Lines → ℕ → Act
 doesOf m l cell = actOf (m .order) (seesOf m l cell) (m .activity)
 
-unfoldable pub turnedOf : Machine → Lines → ℕ → Turn
-turnedOf m l cell =
-    record {
-      machine = appliedOf m (doesOf m l cell) (l .ready) (seesOf m l cell .index);
-      cell = doesOf m l cell .cell;
-      pulse = pulseOf (doesOf m l cell .deed);
-    }
+unfoldable pub cellTurn : Machine → Lines → ℕ → Turn
+cellTurn m l cell = actApplied m (doesOf m l cell) (l .ready) (seesOf m l cell .index)

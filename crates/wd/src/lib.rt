@@ -2,34 +2,37 @@
 ghost use mathlib.Core.Path.{_≡_};
 ghost use Prim.Native.Nat.{_+_, _≤_, _<_};
 ghost use lib.ListN.{length};
-ghost use Rattle.wd.specs.Machines.{validOf, clearFlags, noConditions, freshOf, poweredOf};
-ghost use Rattle.wd.specs.Reads.{statusOf, withBus, readOf};
-ghost use Rattle.wd.specs.Loads.{begunOf, commandedOf, loadedOf};
-ghost use Rattle.wd.specs.Turns.{appliedOf, turnedOf};
-ghost use Rattle.stretch.specs.Stretches.{aheadOf};
-ghost use Rattle.wd.specs.Stretches.{stretchedOf, firstOf, ranOn};
-ghost use Rattle.wd.specs.Handing.{overOf, handedOf, aloneOf};
-ghost use Rattle.wd.specs.Rows.{rowRefusal, refusedAt, doneBy, passedOf, rowOf, stopsAt, countedOf, ranTo, emptyRun, runOf, runRowOf, furtherOf};
+ghost use Rattle.wd.specs.Machines.{validOf, clearFlags, noConditions, freshMachine, powerOn};
+ghost use Rattle.wd.specs.Reads.{statusOf, withBus, readRegister};
+ghost use Rattle.wd.specs.Loads.{commandBegun, commandAnswer, loadRegister};
+ghost use Rattle.wd.specs.Turns.{partsOf, actApplied, cellTurn};
+ghost use Rattle.stretch.specs.Stretches.{stretchAhead};
+ghost use Rattle.wd.specs.Stretches.{afterStretch, firstStretch, ranOn};
+ghost use Rattle.wd.specs.Transfers.{transferNow, afterTransfer, oneByteTime};
+ghost use Rattle.wd.specs.Rows.{rowRefusal, refusedAt, doneBy, byteTime, byteTimeRow, stopsAt, countedOf, ranTo, emptyRun, runOf, runRow, furtherOf};
 use activity::Act;
 use activity::Activity;
-use chip::Conditions;
-use chip::Flags;
-use chip::Head;
-use chip::Lines;
-use chip::Past;
-use chip::Pulse;
-use chip::Regs;
-use chip::Ring;
-use chip::Status;
-use chip::Wires;
-use chip::registers;
-use chip::rings;
-use chip::status_byte;
-use handing::Handing;
-use order::Command;
-use order::Decoded;
-use order::Job;
-use order::Order;
+use command::Command;
+use command::Decoded;
+use command::Order;
+use effects::Parts;
+use registers::Conditions;
+use registers::Flags;
+use registers::Head;
+use registers::Lines;
+use registers::Past;
+use registers::Pulse;
+use registers::Regs;
+use registers::Ring;
+use registers::Status;
+use registers::Wires;
+use registers::bus;
+use registers::rings;
+use registers::status_byte;
+use transfer::Transfer;
+
+// The ring that a refused power-on gives.
+const SHORTEST: u16 = scan::SHORTEST_ROW as u16;
 
 pub struct Machine {
     pub ring: Ring,
@@ -40,8 +43,8 @@ pub struct Machine {
     pub head: Head,
     pub past: Past,
     pub conditions: Conditions,
-    pub order: Order,
     pub activity: Activity,
+    pub order: Order,
 }
 
 // The answers: a number of document 01's table, 0 where the call was done, and the machine after the call.
@@ -109,7 +112,7 @@ fn done(turn: Turn) -> Passed
     }
 }
 
-// A run goes no further behind this byte time.
+// A run goes no further after this byte time.
 fn stops(passed: Passed) -> bool
     ensures { λ r. ⌜ r ≡ stopsAt passed ⌝ }
 {
@@ -175,7 +178,7 @@ fn empty_run(number: u8, machine: Machine) -> Ran
     }
 }
 
-// A run behind a stretch.
+// A run after a stretch.
 fn ran_on(ran: Ran, passed: u16, ready: bool) -> Ran
     requires { ⌜ (ran .tally .passed + passed < 65536) × (ran .machine .ring .position + passed < 65536) ⌝ }
     ensures { λ r. ⌜ r ≡ ranOn ran passed ready ⌝ }
@@ -196,9 +199,9 @@ fn ran_on(ran: Ran, passed: u16, ready: bool) -> Ran
     }
 }
 
-// A run of the one byte time behind which the machine is this.
-fn alone(machine: Machine) -> Ran
-    ensures { λ r. ⌜ r ≡ aloneOf machine ⌝ }
+// A run of the one byte time after which the machine is this.
+fn one_byte_time(machine: Machine) -> Ran
+    ensures { λ r. ⌜ r ≡ oneByteTime machine ⌝ }
 {
     Ran {
         number: 0,
@@ -235,7 +238,7 @@ fn no_conditions() -> Conditions
     }
 }
 
-// A run goes on for so many byte times. Behind one that has not stopped it, those in which nothing happens are passed at once.
+// A run goes on for so many byte times. After one that has not stopped it, those in which nothing happens are passed at once.
 fn run_on(start: Ran, lines: Lines, limit: u16, row: &mut [u16]) -> Ran
     requires { ⌜ (rowRefusal (start .machine) (length (now row)) ≡ 0) × ((start .tally .passed + limit ≤ 65535) × ((start .tally .inward ≤ start .tally .passed) × (start .tally .outward ≤ start .tally .passed))) ⌝ }
     ensures { λ r. ⌜ (r ≡ furtherOf start lines limit (now (row .entry)) .ran) × (now (row .exit) ≡ furtherOf start lines limit (now (row .entry)) .row) ⌝ }
@@ -261,7 +264,7 @@ fn run_on(start: Ran, lines: Lines, limit: u16, row: &mut [u16]) -> Ran
 
 impl Machine {
     fn fresh(length: u16, mfm: bool) -> Machine
-        ensures { λ r. ⌜ r ≡ freshOf length mfm ⌝ }
+        ensures { λ r. ⌜ r ≡ freshMachine length mfm ⌝ }
     {
         Machine {
             ring: Ring {
@@ -289,7 +292,7 @@ impl Machine {
             },
             conditions: no_conditions(),
             order: Order {
-                job: Job::Nothing,
+                command: Command::ForceInterrupt,
                 byte: 0,
                 inward: false,
             },
@@ -299,7 +302,7 @@ impl Machine {
 
     // The machine at power-on, for a row of so many cells and a density.
     pub fn power_on(length: u16, mfm: bool) -> Started
-        ensures { λ r. ⌜ r ≡ poweredOf length mfm ⌝ }
+        ensures { λ r. ⌜ r ≡ powerOn length mfm ⌝ }
     {
         if scan::length_within(length as usize) {
             Started {
@@ -309,7 +312,7 @@ impl Machine {
         } else {
             Started {
                 number: 1,
-                machine: Machine::fresh(2048, false),
+                machine: Machine::fresh(SHORTEST, false),
             }
         }
     }
@@ -350,9 +353,9 @@ impl Machine {
 
     // Reads a register.
     pub fn read_register(self, lines: Lines, number: u8) -> Read
-        ensures { λ r. ⌜ r ≡ readOf self lines number ⌝ }
+        ensures { λ r. ⌜ r ≡ readRegister self lines number ⌝ }
     {
-        let refusal = registers::read_refusal(self.valid(), number);
+        let refusal = bus::read_refusal(self.valid(), number);
         if refusal != 0 {
             return Read {
                 number: refusal,
@@ -362,17 +365,17 @@ impl Machine {
         }
         let regs = self.regs;
         let wires = self.wires;
-        let byte = registers::read_byte(regs, self.status(lines), number);
+        let byte = bus::read_byte(regs, self.status(lines), number);
         Read {
             number: 0,
             byte,
-            machine: self.with_bus(regs, registers::read_wires(wires, number)),
+            machine: self.with_bus(regs, bus::read_wires(wires, number)),
         }
     }
 
     // An accepted command. Types II and III look: not ready ends it at once, and next a write under protection.
     fn begin(self, lines: Lines, byte: u8, command: Command) -> Machine
-        ensures { λ r. ⌜ r ≡ begunOf self lines byte command ⌝ }
+        ensures { λ r. ⌜ r ≡ commandBegun self lines byte command ⌝ }
     {
         let ring = self.ring;
         let regs = self.regs;
@@ -381,31 +384,31 @@ impl Machine {
         let head = self.head;
         let past = self.past;
         let activity = self.activity;
-        let kind = order::kind_of(command);
+        let class = command::class_of(command);
         let held = accepting::held(command, lines);
         let ends = held | !lines.ready;
         Machine {
             ring,
             mfm: self.mfm,
-            regs: accepting::begin_regs(regs, byte),
+            regs: accepting::begin_regs(regs, command),
             wires: accepting::begin_wires(
                 wires,
                 accepting::asks(command) & !ends,
                 ends,
                 byte,
-                kind,
+                class,
             ),
-            flags: accepting::begin_flags(flags, held, activity::busy(activity), kind),
-            head: accepting::begin_head(head, ends, byte, kind),
+            flags: accepting::begin_flags(flags, held, activity::busy(activity), class),
+            head: accepting::begin_head(head, ends, byte, class),
             past,
-            conditions: accepting::begin_conditions(byte, kind),
-            order: order::order_of(command, byte, head.inward),
-            activity: accepting::begin_activity(ends, self.mfm, byte, kind),
+            conditions: accepting::begin_conditions(byte, class),
+            order: command::order_of(command, byte, head.inward),
+            activity: accepting::begin_activity(ends, self.mfm, byte, class),
         }
     }
 
     fn command(self, lines: Lines, byte: u8, decoded: Decoded) -> Loaded
-        ensures { λ r. ⌜ r ≡ commandedOf self lines byte decoded ⌝ }
+        ensures { λ r. ⌜ r ≡ commandAnswer self lines byte decoded ⌝ }
     {
         match decoded {
             Decoded::Taken(command) => Loaded {
@@ -421,10 +424,10 @@ impl Machine {
 
     // Loads a register.
     pub fn load_register(self, lines: Lines, number: u8, byte: u8) -> Loaded
-        ensures { λ r. ⌜ r ≡ loadedOf self lines number byte ⌝ }
+        ensures { λ r. ⌜ r ≡ loadRegister self lines number byte ⌝ }
     {
         let activity = self.activity;
-        let refusal = registers::load_refusal(self.valid(), activity::busy(activity), number, byte);
+        let refusal = bus::load_refusal(self.valid(), activity::busy(activity), number, byte);
         if refusal != 0 {
             return Loaded {
                 number: refusal,
@@ -432,54 +435,79 @@ impl Machine {
             };
         }
         if number == 0 {
-            return self.command(lines, byte, order::decode(byte));
+            return self.command(lines, byte, command::decode(byte));
         }
         let regs = self.regs;
         let wires = self.wires;
         Loaded {
             number: 0,
             machine: self.with_bus(
-                registers::load_regs(regs, number, byte),
-                registers::load_wires(wires, number),
+                bus::load_regs(regs, number, byte),
+                bus::load_wires(wires, number),
             ),
         }
     }
 
-    fn applied(self, act: Act, ready: bool, index: bool) -> Machine
-        ensures { λ r. ⌜ r ≡ appliedOf self act ready index ⌝ }
+    // The machine after an act, the cell as it is left, and the step pulse.
+    fn applied(self, act: Act, ready: bool, index: bool) -> Turn
+        ensures { λ r. ⌜ r ≡ actApplied self act ready index ⌝ }
     {
-        let deed = act.deed;
         let next = act.next;
         let ring = self.ring;
-        let regs = self.regs;
         let wires = self.wires;
-        let flags = self.flags;
-        let head = self.head;
         let past = self.past;
         let conditions = self.conditions;
         let order = self.order;
         let activity = self.activity;
         let ended = activity::busy(activity) & !activity::busy(next);
-        let told = rings::told(conditions, past.ready, ready, index);
-        Machine {
-            ring: rings::next(ring),
-            mfm: self.mfm,
-            regs: deeds::regs_after(regs, deed),
-            wires: Wires {
-                drq: deeds::drq_after(wires.drq, deed),
-                intrq: wires.intrq | told | ended,
+        let told = rings::condition_met(conditions, past.ready, ready, index);
+        let parts = self.parts();
+        let deed = act.deed;
+        let after = parts.after(deed);
+        let regs = after.regs;
+        let flags = after.flags;
+        let head = after.head;
+        let pulse = after.pulse;
+        Turn {
+            machine: Machine {
+                ring: rings::next(ring),
+                mfm: self.mfm,
+                regs,
+                wires: Wires {
+                    drq: after.drq,
+                    intrq: wires.intrq | told | ended,
+                },
+                flags,
+                head,
+                past: Past { ready, index },
+                conditions,
+                order,
+                activity: next,
             },
-            flags: deeds::flags_after(flags, wires.drq, deed),
-            head: deeds::head_after(head, deed),
-            past: Past { ready, index },
-            conditions,
-            order,
-            activity: next,
+            cell: act.cell,
+            pulse,
+        }
+    }
+
+    // What a deed can change, with no pulse reported yet.
+    fn parts(self) -> Parts
+        ensures { λ r. ⌜ r ≡ partsOf self ⌝ }
+    {
+        let regs = self.regs;
+        let wires = self.wires;
+        let flags = self.flags;
+        let head = self.head;
+        Parts {
+            regs,
+            drq: wires.drq,
+            flags,
+            head,
+            pulse: Pulse::Off,
         }
     }
 
     fn turn(self, lines: Lines, cell: u16) -> Turn
-        ensures { λ r. ⌜ r ≡ turnedOf self lines cell ⌝ }
+        ensures { λ r. ⌜ r ≡ cellTurn self lines cell ⌝ }
     {
         let ring = self.ring;
         let regs = self.regs;
@@ -487,13 +515,7 @@ impl Machine {
         let order = self.order;
         let activity = self.activity;
         let seen = rings::look(self.mfm, ring, regs, wires.drq, lines, cell);
-        let act = act::turn(order, seen, activity);
-        let deed = act.deed;
-        Turn {
-            machine: self.applied(act, lines.ready, seen.index),
-            cell: act.cell,
-            pulse: deeds::pulse_of(deed),
-        }
+        self.applied(act::turn(order, seen, activity), lines.ready, seen.index)
     }
 
     // What refusals 2 and 3 ask.
@@ -511,7 +533,7 @@ impl Machine {
     // The cell under the head passes. Whoever calls has looked at refusals 2 and 3.
     fn pass(self, lines: Lines, row: &mut [u16]) -> Passed
         requires { ⌜ rowRefusal self (length (now row)) ≡ 0 ⌝ }
-        ensures { λ r. ⌜ (r ≡ passedOf self lines (now (row .entry))) × (now (row .exit) ≡ rowOf self lines (now (row .entry))) ⌝ }
+        ensures { λ r. ⌜ (r ≡ byteTime self lines (now (row .entry))) × (now (row .exit) ≡ byteTimeRow self lines (now (row .entry))) ⌝ }
     {
         let ring = self.ring;
         let position = ring.position as usize;
@@ -526,7 +548,7 @@ impl Machine {
 
     // The byte times of a stretch that come next.
     fn ahead(self, limit: u16, row: &mut [u16]) -> u16
-        ensures { λ r. ⌜ (r ≡ aheadOf (self .ring) (self .activity) limit (now (row .entry))) × (now (row .exit) ≡ now (row .entry)) ⌝ }
+        ensures { λ r. ⌜ (r ≡ stretchAhead (self .ring) (self .activity) limit (now (row .entry))) × (now (row .exit) ≡ now (row .entry)) ⌝ }
         ensures { λ r. ⌜ r ≤ limit ⌝ }
     {
         let ring = self.ring;
@@ -534,10 +556,10 @@ impl Machine {
         stretch::ahead(ring, activity, limit, row)
     }
 
-    // The machine behind so many of them.
+    // The machine after so many of them.
     fn stretched(self, passed: u16, ready: bool) -> Machine
         requires { ⌜ self .ring .position + passed < 65536 ⌝ }
-        ensures { λ r. ⌜ r ≡ stretchedOf self passed ready ⌝ }
+        ensures { λ r. ⌜ r ≡ afterStretch self passed ready ⌝ }
     {
         let ring = self.ring;
         let regs = self.regs;
@@ -570,7 +592,7 @@ impl Machine {
     // The byte times of a stretch that a run begins with. None where a wire is on, since the run stops there; nor where Ready is
     // seen anew, since a condition may be met.
     fn first(self, ready: bool, limit: u16, row: &mut [u16]) -> u16
-        ensures { λ r. ⌜ (r ≡ firstOf self ready limit (now (row .entry))) × (now (row .exit) ≡ now (row .entry)) ⌝ }
+        ensures { λ r. ⌜ (r ≡ firstStretch self ready limit (now (row .entry))) × (now (row .exit) ≡ now (row .entry)) ⌝ }
         ensures { λ r. ⌜ r ≤ limit ⌝ }
     {
         let wires = self.wires;
@@ -581,31 +603,31 @@ impl Machine {
         self.ahead(limit, row)
     }
 
-    // The byte that goes over, where the cell is not refused and no condition of a Force Interrupt is asked. Beside a command
-    // that moves bytes none is: so nothing is told, and nothing has to be worked out for it.
-    fn over(self, lines: Lines, cell: u16) -> Handing
-        ensures { λ r. ⌜ r ≡ overOf self lines cell ⌝ }
+    // The byte transferred, where the cell is not refused and no condition of a Force Interrupt is asked. A command that
+    // transfers bytes has dropped all conditions; a machine that no calls lead to may have one, and the loop handles it.
+    fn transferred(self, lines: Lines, cell: u16) -> Transfer
+        ensures { λ r. ⌜ r ≡ transferNow self lines cell ⌝ }
     {
         if 511 < cell {
-            return Handing::Nothing;
+            return Transfer::Nothing;
         }
         let conditions = self.conditions;
         if conditions.on | conditions.off | conditions.index {
-            return Handing::Nothing;
+            return Transfer::Nothing;
         }
         let ring = self.ring;
         let regs = self.regs;
         let wires = self.wires;
         let activity = self.activity;
-        handing::goes_over(
+        transfer::transferred(
             rings::look(self.mfm, ring, regs, wires.drq, lines, cell),
             activity,
         )
     }
 
-    // The machine behind the byte time in which it went over.
-    fn handed(self, ready: bool, dr: u8, next: Activity) -> Machine
-        ensures { λ r. ⌜ r ≡ handedOf self ready dr next ⌝ }
+    // The machine after the byte time in which it was transferred.
+    fn after_transfer(self, ready: bool, dr: u8, next: Activity) -> Machine
+        ensures { λ r. ⌜ r ≡ afterTransfer self ready dr next ⌝ }
     {
         let ring = self.ring;
         let mut regs = self.regs;
@@ -634,8 +656,8 @@ impl Machine {
         }
     }
 
-    // A run where nothing is refused and no byte goes over in its first byte time: it may begin with a stretch, and be over with
-    // it. The loop has two callers here, so the compiler keeps it apart, and a byte that goes over does not pay for it.
+    // A run where nothing is refused and no byte is transferred in its first byte time. It may begin with a stretch, and end
+    // with it. The loop has two callers here, so the compiler keeps it apart, and a byte transferred does not pay for it.
     fn run_open(self, lines: Lines, limit: u16, row: &mut [u16]) -> Ran
         requires { ⌜ rowRefusal self (length (now row)) ≡ 0 ⌝ }
         ensures { λ r. ⌜ (r ≡ furtherOf (emptyRun 0 self) lines limit (now (row .entry)) .ran) × (now (row .exit) ≡ furtherOf (emptyRun 0 self) lines limit (now (row .entry)) .row) ⌝ }
@@ -657,9 +679,9 @@ impl Machine {
     }
 
     // Byte times up to a limit, to the first that ends with DRQ or INTRQ on. A byte time keeps a valid machine valid and
-    // the row's length, so refusals 2 and 3 are looked at once. A byte that goes over in the first one ends the run with it.
+    // the row's length, so refusals 2 and 3 are looked at once. A byte transferred in the first one ends the run with it.
     pub fn run(self, lines: Lines, limit: u16, row: &mut [u16]) -> Ran
-        ensures { λ r. ⌜ (r ≡ runOf self lines limit (now (row .entry))) × (now (row .exit) ≡ runRowOf self lines limit (now (row .entry))) ⌝ }
+        ensures { λ r. ⌜ (r ≡ runOf self lines limit (now (row .entry))) × (now (row .exit) ≡ runRow self lines limit (now (row .entry))) ⌝ }
     {
         let refusal = self.row_refusal(row.len());
         if (refusal != 0) | (limit == 0) {
@@ -667,19 +689,19 @@ impl Machine {
         }
         let ring = self.ring;
         let position = ring.position as usize;
-        let handing = self.over(lines, row[position]);
-        match handing {
-            Handing::Over { next, dr, cell } => {
+        let moved = self.transferred(lines, row[position]);
+        match moved {
+            Transfer::Byte { next, dr, cell } => {
                 row[position] = cell;
-                alone(self.handed(lines.ready, dr, next))
+                one_byte_time(self.after_transfer(lines.ready, dr, next))
             }
-            Handing::Nothing => self.run_open(lines, limit, row),
+            Transfer::Nothing => self.run_open(lines, limit, row),
         }
     }
 
     // One byte time over the lent row.
     pub fn byte_time(self, lines: Lines, row: &mut [u16]) -> Passed
-        ensures { λ r. ⌜ (r ≡ passedOf self lines (now (row .entry))) × (now (row .exit) ≡ rowOf self lines (now (row .entry))) ⌝ }
+        ensures { λ r. ⌜ (r ≡ byteTime self lines (now (row .entry))) × (now (row .exit) ≡ byteTimeRow self lines (now (row .entry))) ⌝ }
     {
         let refusal = self.row_refusal(row.len());
         if refusal != 0 {

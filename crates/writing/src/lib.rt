@@ -1,7 +1,7 @@
-// Write Sector behind its ID.
+// Write Sector after its ID.
 ghost use mathlib.Core.Path.{_≡_};
 ghost use Prim.Native.Nat.{_≤_};
-ghost use Rattle.writing.specs.Writing.{lastKept, lastZero, markPlace, chosenMark, markCell, preambleCell, preambleNext, asksOf, preambleOf, putOf};
+ghost use Rattle.writing.specs.Writing.{lastKept, lastZero, markPlace, markCell, preambleCell, preambleNext, preambleDeed, preambleTurn, putCell};
 use activity::Act;
 use activity::Activity;
 use activity::Deed;
@@ -9,7 +9,7 @@ use activity::Seen;
 use activity::taken;
 use search::again;
 
-// Byte times behind the ID's last cell, numbered from 1: up to this one the cells are kept.
+// Byte times after the ID's last cell, numbered from 1: up to this one the cells are kept.
 fn last_kept(mfm: bool) -> u16
     ensures { λ r. ⌜ r ≡ lastKept mfm ⌝ }
 {
@@ -31,19 +31,13 @@ fn mark_place(mfm: bool) -> u16
     if mfm { 38 } else { 18 }
 }
 
-fn chosen_mark(deleted: bool) -> u8
-    ensures { λ r. ⌜ r ≡ chosenMark deleted ⌝ }
-{
-    if deleted { 0xF8 } else { 0xFB }
-}
-
 fn mark_cell(mfm: bool, byte: u8) -> u16
     ensures { λ r. ⌜ r ≡ markCell mfm byte ⌝ }
 {
     if mfm { byte as u16 } else { byte as u16 + 256 }
 }
 
-// What the n-th cell behind the ID becomes.
+// What the n-th cell after the ID becomes.
 fn preamble_cell(mfm: bool, n: u16, mark: u8, cell: u16) -> u16
     ensures { λ r. ⌜ r ≡ preambleCell mfm n mark cell ⌝ }
 {
@@ -70,7 +64,7 @@ fn preamble_next(mfm: bool, left: u16, n: u16, mark: u8) -> Activity
 }
 
 fn asks(n: u16) -> Deed
-    ensures { λ r. ⌜ r ≡ asksOf n ⌝ }
+    ensures { λ r. ⌜ r ≡ preambleDeed n ⌝ }
 {
     if n == 2 {
         Deed::Ask(true)
@@ -79,9 +73,9 @@ fn asks(n: u16) -> Deed
     }
 }
 
-// A cell behind the ID, up to the mark.
-pub fn preamble(s: Seen, deleted: bool, left: u16, passed: u8) -> Act
-    ensures { λ r. ⌜ r ≡ preambleOf s deleted left passed ⌝ }
+// A cell after the ID, up to the mark.
+pub fn preamble(s: Seen, mark: u8, left: u16, passed: u8) -> Act
+    ensures { λ r. ⌜ r ≡ preambleTurn s mark left passed ⌝ }
 {
     let n = passed as u16 + 1;
     if (n == 10) & s.drq {
@@ -91,7 +85,6 @@ pub fn preamble(s: Seen, deleted: bool, left: u16, passed: u8) -> Act
             cell: s.cell,
         };
     }
-    let mark = chosen_mark(deleted);
     Act {
         next: preamble_next(s.mfm, left, n, mark),
         deed: asks(n),
@@ -99,9 +92,9 @@ pub fn preamble(s: Seen, deleted: bool, left: u16, passed: u8) -> Act
     }
 }
 
-// A cell behind the mark: data, the two CRC bytes, the FF.
+// A cell after the mark: data, the two CRC bytes, the FF.
 pub fn put(s: Seen, multiple: bool, left: u16, crc: u16) -> Act
-    ensures { λ r. ⌜ r ≡ putOf s multiple left crc ⌝ }
+    ensures { λ r. ⌜ r ≡ putCell s multiple left crc ⌝ }
 {
     if 4 <= left {
         let byte = taken(s);

@@ -100,7 +100,7 @@ impl Generator {
         }
     }
 
-    /// Mostly the nearest of all aims, since what lies behind it comes with later runs; now and
+    /// Mostly the nearest of all aims, since what lies after it comes with later runs; now and
     /// then a round later.
     fn aimed_limit(&mut self) -> usize {
         let distances = self.distances();

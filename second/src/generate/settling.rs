@@ -1,4 +1,4 @@
-// Scenes of settling, passed in runs, and what comes right behind it.
+// Scenes of settling, passed in runs, and what comes right after it.
 
 use super::{Generator, Sector, HEAD_LOADED, READY};
 use crate::activity::Activity;
@@ -18,7 +18,7 @@ impl Generator {
         }
     }
 
-    /// A settling in several runs, HLT off or on, behind which the first byte time has the index
+    /// A settling in several runs, HLT off or on, after which the first byte time has the index
     /// pulse or the first cell of an ID, or is one off it: so one byte time more or less changes
     /// what is found.
     pub fn settling_stretch(&mut self) {

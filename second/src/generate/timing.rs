@@ -56,7 +56,7 @@ impl Generator {
     }
 
     /// The head stands so that the search begins with the first cell of an ID, or a track command
-    /// with the index pulse; or with the cell before it, or the cell behind it.
+    /// with the index pulse; or with the cell before it, or the cell after it.
     pub fn beginning_scene(&mut self) {
         let byte = self.random.pick(&BEGINNINGS);
         let for_index = matches!(byte, 0xE0 | 0xE4 | 0xF0 | 0xF4);
@@ -131,7 +131,7 @@ impl Generator {
         self.end_command();
     }
 
-    /// Sectors one behind the other with either mark or no data mark, some with a bad data CRC,
+    /// Sectors one after the other with either mark or no data mark, some with a bad data CRC,
     /// read or written with m.
     pub fn chain_scene(&mut self) {
         let first: u8 = self.random.pick(&[1, 9, 254, 255]);

@@ -7,7 +7,7 @@ use second::status::{CRC_ERROR, NOT_FOUND};
 
 use crate::desk::{Desk, Fm, Mfm, BOTH, NO_LIMIT};
 
-/// A track with one sector, its ID ending just before cell 700, its data mark behind it.
+/// A track with one sector, its ID ending just before cell 700, its data mark after it.
 fn desk_with_sector(density: Density, side: u8) -> Desk {
     let mut desk = Desk::new(density);
     desk.put_id_before(700, [0, side, 1, 0]);

@@ -13,7 +13,7 @@ fn desk_with_id(density: Density, code: u8) -> Desk {
     desk
 }
 
-/// The cells that Write Sector lays behind an ID that ends before cell 100.
+/// The cells that Write Sector lays after an ID that ends before cell 100.
 fn expected_record(density: Density, mark: u8, data: &[u8]) -> (usize, Vec<u16>) {
     let (first, zeros) = match density {
         Fm => (12, 6),
@@ -139,7 +139,7 @@ fn a_forced_end_keeps_the_cells_already_written() {
     assert_eq!(desk.track[111..120], [0, 0, 0, 0, 0, 0, 0x1FB, 0x31, 0xFF]);
 }
 
-/// A track written by Write Track with these bytes first and 00 behind them.
+/// A track written by Write Track with these bytes first and 00 after them.
 fn formatted(density: Density, bytes: &[u8]) -> Desk {
     let mut desk = Desk::new(density);
     desk.go_to(2000);

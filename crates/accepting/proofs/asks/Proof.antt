@@ -2,8 +2,8 @@
 use mathlib.Core.List.{[], _∷_}
 use mathlib.Core.Path.{refl}
 use borrow.Author.Needs.{needs}
-use Rattle.order.proofs.Arms.{commands}
-use Rattle.order.specs.declared.Command.the-variants.{Restore, Seek, Step, StepIn, StepOut, ReadSector, WriteSector, ReadAddress, ReadTrack, ForceInterrupt}
+use Rattle.command.proofs.Arms.{commands}
+use Rattle.command.specs.declared.Command.the-variants.{Restore, Seek, Step, StepIn, StepOut, ReadSector, WriteSector, ReadAddress, ReadTrack, ForceInterrupt}
 use Rattle.accepting.proofs.asks.Statement.{statement}
 use Rattle.accepting.specs.Accepting.{asksFirst}
 use Rattle.accepting.proofs.asks.Tie as tie

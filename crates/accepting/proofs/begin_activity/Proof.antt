@@ -1,8 +1,8 @@
 -- `accepting::begin_activity` meets its contract, by its tests and its callees' contracts. Assumes nothing.
-use mathlib.Core.Path.{sym}
-use borrow.Author.Needs.{needs}
 use Rattle.accepting.proofs.begin_activity.Statement.{statement}
 use Rattle.accepting.specs.Accepting.{beginActivity}
+use borrow.Author.Needs.{needs}
+use mathlib.Core.Path.{sym}
 use Rattle.accepting.proofs.begin_activity.Tie as tie
 
 enum-told : tie.Need-enum-told
@@ -14,8 +14,8 @@ enum-told-2 c = search needs
 enum-told-3 : tie.Need-enum-told-3
 enum-told-3 c = search needs
 
-bit-requires : tie.Need-bit-requires
-bit-requires c κs = search needs
+settles-first-requires : tie.Need-settles-first-requires
+settles-first-requires c κs = search needs
 
 works-from-requires : tie.Need-works-from-requires
 works-from-requires c κs = search needs
@@ -33,7 +33,7 @@ returns-2 c = simp (c .enum-told2 .given .1)
 
 returns-3 : tie.Need-returns-3
 unfolding beginActivity
-returns-3 c = simp (c .works-from .ensures, sym (c .before .bit .ensures), c .before .before .enum-told3 .given .1)
+returns-3 c = simp (c .works-from .ensures, sym (c .before .settles-first .ensures), c .before .before .enum-told3 .given .1)
 
 returns-4 : tie.Need-returns-4
 unfolding beginActivity
@@ -46,7 +46,7 @@ begin-activity-spec =
     enum-told
     enum-told-2
     enum-told-3
-    bit-requires
+    settles-first-requires
     works-from-requires
     enum-told-4
     returns

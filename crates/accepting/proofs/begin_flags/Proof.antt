@@ -2,8 +2,8 @@
 use mathlib.Core.List.{[], _∷_}
 use mathlib.Core.Path.{refl}
 use borrow.Author.Needs.{needs}
-use Rattle.order.proofs.Arms.{kinds}
-use Rattle.order.specs.declared.Kind.the-variants.{Seeks, Steps}
+use Rattle.command.proofs.Arms.{classes}
+use Rattle.command.specs.declared.Class.the-variants.{Seeks, Steps}
 use Rattle.accepting.proofs.begin_flags.Statement.{statement}
 use Rattle.accepting.specs.Accepting.{beginFlags}
 use Rattle.accepting.proofs.begin_flags.Tie as tie
@@ -19,7 +19,7 @@ forced-flags-requires c κs = search needs
 
 returns : tie.Need-returns
 unfolding beginFlags
-returns c = kinds (beginFlags (c .before .args .flags) (c .before .args .held) (c .before .args .busy)) (c .before .args .kind) (Seeks ∷ Steps ∷ []) refl (c .match .keys1)
+returns c = classes (beginFlags (c .before .args .flags) (c .before .args .held) (c .before .args .busy)) (c .before .args .class) (Seeks ∷ Steps ∷ []) refl (c .match .keys1)
 
 returns-2 : tie.Need-returns-2
 unfolding beginFlags

@@ -1,8 +1,8 @@
 -- `accepting::writes_to_disk` meets its contract, by its tests and its callees' contracts. Assumes nothing.
 use mathlib.Core.List.{[], _∷_}
 use mathlib.Core.Path.{refl}
-use Rattle.order.proofs.Arms.{commands}
-use Rattle.order.specs.declared.Command.the-variants.{Restore, Seek, Step, StepIn, StepOut, ReadSector, WriteSector, ReadAddress, ReadTrack, WriteTrack, ForceInterrupt}
+use Rattle.command.proofs.Arms.{commands}
+use Rattle.command.specs.declared.Command.the-variants.{Restore, Seek, Step, StepIn, StepOut, ReadSector, WriteSector, ReadAddress, ReadTrack, WriteTrack, ForceInterrupt}
 use Rattle.accepting.specs.Accepting.{writes}
 use Rattle.accepting.proofs.writes_to_disk.Statement.{statement}
 use Rattle.accepting.proofs.writes_to_disk.Tie as tie

@@ -1,11 +1,11 @@
 -- `act::begin` meets its contract, by its tests and its callees' contracts. Assumes nothing.
 use mathlib.Core.List.{[], _∷_}
 use mathlib.Core.Path.{refl}
-use borrow.Author.Needs.{needs}
-use Rattle.order.proofs.Arms.{jobs}
-use Rattle.order.specs.declared.Job.the-variants as job
+use Rattle.command.proofs.Arms.{jobs}
+use Rattle.command.specs.declared.Job.the-variants as job
 use Rattle.act.proofs.begin.Statement.{statement}
-use Rattle.act.specs.Turns.{begunOf}
+use Rattle.act.specs.Turns.{jobBegun}
+use borrow.Author.Needs.{needs}
 use Rattle.act.proofs.begin.Tie as tie
 
 enum-told : tie.Need-enum-told
@@ -14,21 +14,52 @@ enum-told c = search needs
 enum-told-2 : tie.Need-enum-told-2
 enum-told-2 c = search needs
 
+enum-told-3 : tie.Need-enum-told-3
+enum-told-3 c = search needs
+
+begin-if-requires : tie.Need-begin-if-requires
+begin-if-requires c κs = search needs
+
+enum-told-4 : tie.Need-enum-told-4
+enum-told-4 c = search needs
+
+begin-if-requires-2 : tie.Need-begin-if-requires-2
+begin-if-requires-2 c κs = search needs
+
 returns : tie.Need-returns
-unfolding begunOf
+unfolding jobBegun
 returns c = simp (c .enum-told .given .1)
 
 returns-2 : tie.Need-returns-2
-unfolding begunOf
-returns-2 c = jobs begunOf (c .before .args .job) (job.Verify ∷ job.ReadSector ∷ job.WriteSector ∷ []) refl (c .match .keys2)
+unfolding jobBegun
+returns-2 c =
+    jobs (jobBegun (c .before .args .s)) (c .before .args .job) (job.Verify ∷ job.ReadSector ∷ job.WriteSector ∷ []) refl
+    (c .match .keys2)
 
 returns-3 : tie.Need-returns-3
-unfolding begunOf
+unfolding jobBegun
 returns-3 c = simp (c .enum-told2 .given .1)
 
 returns-4 : tie.Need-returns-4
-unfolding begunOf
-returns-4 c = jobs begunOf (c .before .args .job) (job.ReadTrack ∷ job.WriteTrack ∷ []) refl (c .match .keys4)
+unfolding jobBegun
+returns-4 c = simp (c .begin-if .ensures, c .before .enum-told3 .given .1)
+
+returns-5 : tie.Need-returns-5
+unfolding jobBegun
+returns-5 c = simp (c .begin-if2 .ensures, c .before .before .before .enum-told4 .given .1)
 
 pub begin-spec : {M : Type 1} → statement M
-begin-spec = tie.close (tie.spec enum-told enum-told-2 returns returns-2 returns-3 returns-4)
+begin-spec =
+    tie.close
+    (tie.spec
+    enum-told
+    enum-told-2
+    enum-told-3
+    begin-if-requires
+    enum-told-4
+    begin-if-requires-2
+    returns
+    returns-2
+    returns-3
+    returns-4
+    returns-5)

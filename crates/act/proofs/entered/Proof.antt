@@ -1,26 +1,59 @@
 -- `act::entered` meets its contract, by its tests and its callees' contracts. Assumes nothing.
-use borrow.Author.Needs.{needs}
 use Rattle.act.proofs.Arms.{entered-else}
 use Rattle.act.proofs.entered.Statement.{statement}
-use Rattle.act.specs.Turns.{enteredOf}
+use Rattle.act.specs.Turns.{begunActivity}
+use borrow.Author.Needs.{needs}
 use Rattle.act.proofs.entered.Tie as tie
+
+enum-known-activity : tie.Need-enum-known-activity
+enum-known-activity c = search needs
+
+job-of-requires : tie.Need-job-of-requires
+job-of-requires c κs = search needs
+
+begin-requires : tie.Need-begin-requires
+begin-requires c κs = search needs
 
 enum-told : tie.Need-enum-told
 enum-told c = search needs
 
-open-requires : tie.Need-open-requires
-open-requires c κs = search needs
+job-of-requires-2 : tie.Need-job-of-requires-2
+job-of-requires-2 c κs = search needs
+
+begin-requires-2 : tie.Need-begin-requires-2
+begin-requires-2 c κs = search needs
 
 returns : tie.Need-returns
-unfolding enteredOf
-returns c = simp (c .«open» .ensures, c .before .if1 .taken, c .before .before .enum-told .given .1)
+unfolding begunActivity
+returns c = simp (c .begin .ensures, c .before .job-of .ensures, c .before .before .if1 .taken, c .before .before .before .before .before .activity .given .1)
 
 returns-2 : tie.Need-returns-2
-unfolding enteredOf
-returns-2 c = simp (c .if1 .left, c .before .enum-told .given .1)
+unfolding begunActivity
+returns-2 c = simp (c .if1 .left, c .before .before .before .activity .given .1)
 
 returns-3 : tie.Need-returns-3
-returns-3 c = entered-else (c .before .args .job) (c .before .args .index) (c .before .args .drq) (c .before .args .activity) (c .match .keys2)
+unfolding begunActivity
+returns-3 c = simp (c .begin2 .ensures, c .before .job-of2 .ensures, c .before .before .if2 .taken, c .before .before .before .enum-told .given .1)
+
+returns-4 : tie.Need-returns-4
+unfolding begunActivity
+returns-4 c = simp (c .if2 .left, c .before .enum-told .given .1)
+
+returns-5 : tie.Need-returns-5
+returns-5 c = entered-else (c .before .args .o) (c .before .args .s) (c .before .args .activity) (c .match .keys3)
 
 pub entered-spec : {M : Type 1} → statement M
-entered-spec = tie.close (tie.spec enum-told open-requires returns returns-2 returns-3)
+entered-spec =
+    tie.close
+    (tie.spec
+    enum-known-activity
+    job-of-requires
+    begin-requires
+    enum-told
+    job-of-requires-2
+    begin-requires-2
+    returns
+    returns-2
+    returns-3
+    returns-4
+    returns-5)

@@ -1,8 +1,8 @@
 -- `act::react` meets its contract, by its tests and its callees' contracts. Assumes nothing.
-use mathlib.Core.Path.{sym}
-use borrow.Author.Needs.{needs}
 use Rattle.act.proofs.react.Statement.{statement}
-use Rattle.act.specs.Turns.{reactedOf}
+use Rattle.act.specs.Turns.{activityAct}
+use borrow.Author.Needs.{needs}
+use mathlib.Core.Path.{sym}
 use Rattle.act.proofs.react.Tie as tie
 
 enum-told : tie.Need-enum-told
@@ -47,8 +47,8 @@ window-requires c κs = search needs
 enum-known-activity-6 : tie.Need-enum-known-activity-6
 enum-known-activity-6 c = search needs
 
-bit-requires : tie.Need-bit-requires
-bit-requires c κs = search needs
+is-multiple-requires : tie.Need-is-multiple-requires
+is-multiple-requires c κs = search needs
 
 read-requires : tie.Need-read-requires
 read-requires c κs = search needs
@@ -80,8 +80,11 @@ track-read-requires c κs = search needs
 enum-known-activity-9 : tie.Need-enum-known-activity-9
 enum-known-activity-9 c = search needs
 
-bit-requires-2 : tie.Need-bit-requires-2
-bit-requires-2 c κs = search needs
+mark-written-requires : tie.Need-mark-written-requires
+mark-written-requires c κs = search needs
+
+mark-byte-requires : tie.Need-mark-byte-requires
+mark-byte-requires c κs = search needs
 
 preamble-requires : tie.Need-preamble-requires
 preamble-requires c κs = search needs
@@ -89,8 +92,8 @@ preamble-requires c κs = search needs
 enum-known-activity-10 : tie.Need-enum-known-activity-10
 enum-known-activity-10 c = search needs
 
-bit-requires-3 : tie.Need-bit-requires-3
-bit-requires-3 c κs = search needs
+is-multiple-requires-2 : tie.Need-is-multiple-requires-2
+is-multiple-requires-2 c κs = search needs
 
 put-requires : tie.Need-put-requires
 put-requires c κs = search needs
@@ -108,72 +111,67 @@ format-crc-requires : tie.Need-format-crc-requires
 format-crc-requires c κs = search needs
 
 returns : tie.Need-returns
-unfolding reactedOf
+unfolding activityAct
 returns c = simp (c .enum-told .given .1)
 
 returns-2 : tie.Need-returns-2
-unfolding reactedOf
+unfolding activityAct
 returns-2 c = simp (c .seek .ensures, c .before .before .activity .given .1)
 
 returns-3 : tie.Need-returns-3
-unfolding reactedOf
+unfolding activityAct
 returns-3 c = simp (c .pulse .ensures, c .before .enum-told2 .given .1)
 
 returns-4 : tie.Need-returns-4
-unfolding reactedOf
+unfolding activityAct
 returns-4 c = simp (c .stop-in .ensures, c .before .before .activity2 .given .1)
 
 returns-5 : tie.Need-returns-5
-unfolding reactedOf
+unfolding activityAct
 returns-5 c = simp (c .settling .ensures, c .before .before .activity3 .given .1)
 
 returns-6 : tie.Need-returns-6
-unfolding reactedOf
+unfolding activityAct
 returns-6 c = simp (c .search .ensures, c .before .before .activity4 .given .1)
 
 returns-7 : tie.Need-returns-7
-unfolding reactedOf
+unfolding activityAct
 returns-7 c = simp (c .window .ensures, c .before .before .activity5 .given .1)
 
 returns-8 : tie.Need-returns-8
-unfolding reactedOf
-returns-8 c = simp (c .read .ensures, sym (c .before .bit .ensures), c .before .before .before .activity6 .given .1)
+unfolding activityAct
+returns-8 c = simp (c .read .ensures, sym (c .before .is-multiple .ensures), c .before .before .before .activity6 .given .1)
 
 returns-9 : tie.Need-returns-9
-unfolding reactedOf
+unfolding activityAct
 returns-9 c = simp (c .hunt .ensures, c .before .before .activity7 .given .1)
 
 returns-10 : tie.Need-returns-10
-unfolding reactedOf
+unfolding activityAct
 returns-10 c = simp (c .address .ensures, c .before .before .activity8 .given .1)
 
 returns-11 : tie.Need-returns-11
-unfolding reactedOf
+unfolding activityAct
 returns-11 c = simp (c .awaiting .ensures, c .before .enum-told3 .given .1)
 
 returns-12 : tie.Need-returns-12
-unfolding reactedOf
+unfolding activityAct
 returns-12 c = simp (c .track-read .ensures, c .before .enum-told4 .given .1)
 
 returns-13 : tie.Need-returns-13
-unfolding reactedOf
-returns-13 c =
-    simp (
-      c .preamble .ensures,
-      sym (c .before .bit2 .ensures),
-      c .before .before .before .activity9 .given .1,
-    )
+unfolding activityAct
+returns-13 c = simp (sym (c .preamble .ensures), sym (c .before .mark-byte .ensures), sym (c .before .before .mark-written .ensures), c .before .before .before .before .activity9 .given .1)
 
 returns-14 : tie.Need-returns-14
-unfolding reactedOf
-returns-14 c = simp (c .put .ensures, sym (c .before .bit3 .ensures), c .before .before .before .activity10 .given .1)
+unfolding activityAct
+returns-14 c = simp (c .put .ensures, sym (c .before .is-multiple2 .ensures), c .before .before .before .activity10 .given .1)
 
 returns-15 : tie.Need-returns-15
-unfolding reactedOf
+unfolding activityAct
 returns-15 c = simp (c .format .ensures, c .before .before .activity11 .given .1)
 
 returns-16 : tie.Need-returns-16
-unfolding reactedOf
+unfolding activityAct
 returns-16 c = simp (c .format-crc .ensures, c .before .before .activity12 .given .1)
 
 pub react-spec : {M : Type 1} → statement M
@@ -194,7 +192,7 @@ react-spec =
     enum-known-activity-5
     window-requires
     enum-known-activity-6
-    bit-requires
+    is-multiple-requires
     read-requires
     enum-known-activity-7
     hunt-requires
@@ -205,10 +203,11 @@ react-spec =
     enum-told-4
     track-read-requires
     enum-known-activity-9
-    bit-requires-2
+    mark-written-requires
+    mark-byte-requires
     preamble-requires
     enum-known-activity-10
-    bit-requires-3
+    is-multiple-requires-2
     put-requires
     enum-known-activity-11
     format-requires

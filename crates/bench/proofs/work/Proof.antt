@@ -2,13 +2,13 @@
 -- Assumes nothing.
 use Prim.Native.Nat.{_-_}
 use native.Mathlib.Omega.{arith}
-use Rattle.bench.specs.Rows.{Fits}
+use Rattle.bench.specs.Rows.{RowsFit}
 use borrow.Author.Needs.{needs}
 use Rattle.bench.proofs.work.Statement.{statement}
 use Rattle.bench.proofs.work.Tie as tie
 
 abbrev Inv-loop : tie.InvT-loop
-Inv-loop cells₀ buffer₀ out₀ machine₀ session₀ source₀ number₀ cells buffer out machine session source number = Fits (session .rows)
+Inv-loop cells₀ buffer₀ out₀ machine₀ session₀ source₀ number₀ cells buffer out machine session source number = RowsFit (session .rows)
 
 abbrev μ-loop : tie.MeasureT-loop
 μ-loop cells₀ buffer₀ out₀ machine₀ session₀ source₀ number₀ cells buffer out machine session source number = 0xFFFFFFFFFFFFFFFF - number

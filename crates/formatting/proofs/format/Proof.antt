@@ -3,7 +3,7 @@ use mathlib.Core.Path.{sym}
 use borrow.Author.Needs.{needs}
 use borrow.Author.Tests.{eq-eqb, ne-eqb}
 use Rattle.formatting.proofs.format.Statement.{statement}
-use Rattle.formatting.specs.Formatting.{formatOf}
+use Rattle.formatting.specs.Formatting.{formatCell}
 use Rattle.formatting.proofs.format.Tie as tie
 
 taken-requires : tie.Need-taken-requires
@@ -13,7 +13,7 @@ until-last-requires : tie.Need-until-last-requires
 until-last-requires c κs = search needs
 
 returns : tie.Need-returns
-unfolding formatOf
+unfolding formatCell
 returns c = simp (c .until-last .ensures, eq-eqb _ _ (c .before .if1 .taken), sym (c .before .before .taken .ensures))
 
 laid-crc-requires : tie.Need-laid-crc-requires
@@ -26,7 +26,7 @@ laid-cell-requires : tie.Need-laid-cell-requires
 laid-cell-requires c κs = search needs
 
 returns-2 : tie.Need-returns-2
-unfolding formatOf
+unfolding formatCell
 returns-2 c =
     simp (
       sym (c .laid-cell .ensures),

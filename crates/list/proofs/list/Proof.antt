@@ -3,12 +3,13 @@ use mathlib.Core.Path.{_≡_}
 use Prim.Native.Nat.{_≤_}
 use lib.ListN.{length}
 use borrow.Author.Needs.{needs}
+use Rattle.scan.specs.Rows.{longestRow}
 use Rattle.list.proofs.list.Statement.{statement}
 use Rattle.list.proofs.list.Tie as tie
 
 abbrev Inv-loop : tie.InvT-loop
 Inv-loop bytes₀ room₀ out₀ run₀ left₀ bytes room out run left =
-    (length bytes ≡ length bytes₀) × ((run .held ≤ length bytes) × ((length room ≡ 6400) × (length out ≡ 65536)))
+    (length bytes ≡ length bytes₀) × ((run .held ≤ length bytes) × ((length room ≡ longestRow) × (length out ≡ length out₀)))
 
 abbrev μ-loop : tie.MeasureT-loop
 μ-loop bytes₀ room₀ out₀ run₀ left₀ bytes room out run left = left

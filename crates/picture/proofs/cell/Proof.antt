@@ -1,6 +1,6 @@
 -- `picture::cell` meets its contract, by its tests and its callees' contracts. Assumes nothing.
 use mathlib.Core.Path.{refl}
-use Rattle.picture.specs.Cells.{flagIn, cellFrom}
+use Rattle.picture.specs.Layout.{flagIn, cellFrom}
 use Rattle.picture.proofs.cell.Statement.{statement}
 use borrow.Author.Needs.{needs}
 use Rattle.picture.proofs.cell.Tie as tie

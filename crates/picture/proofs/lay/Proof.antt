@@ -1,48 +1,34 @@
 -- `picture::lay` meets its contract: after i turns of the loop, i cells are laid. Assumes nothing.
 use mathlib.Core.Path.{_≡_, refl}
 use Prim.Native.Nat.{_-_, _≤_}
+use native.Mathlib.Numerals.{add-one}
 use native.Mathlib.Omega.{arith}
 use lib.ListN.{length}
 use borrow.Author.Needs.{needs}
-use Rattle.picture.specs.Cells.{cellOf, laid, cellsIn}
-use Rattle.picture.specs.Kinds.{lengthOf, bodyOf}
-use Rattle.picture.proofs.Laying.{laid-more}
+use Rattle.common.specs.Laid.{laidRow}
+use Rattle.common.proofs.Laid.{laid-more}
+use Rattle.picture.specs.Kinds.{lengthOf}
+use Rattle.picture.specs.Layout.{pictureCell}
+use Rattle.picture.specs.Reader.{roomWithPicture}
 use Rattle.picture.proofs.lay.Statement.{statement}
 use Rattle.picture.proofs.lay.Tie as tie
 
 abbrev Inv-loop : tie.InvT-loop
-Inv-loop bytes room₀ cells i₀ room i =
-    (i ≤ cells) × ((length room ≡ length room₀) × (room ≡ laid (cellOf bytes cells) i room₀))
+Inv-loop kind bytes room₀ cells i₀ room i =
+    (i ≤ cells) × ((length room ≡ length room₀) × (room ≡ laidRow room₀ (λ k. k) (pictureCell kind bytes) i))
 
 abbrev μ-loop : tie.MeasureT-loop
-μ-loop bytes room₀ cells i₀ room i = cells - i
+μ-loop kind bytes room₀ cells i₀ room i = cells - i
 
 length-requires : tie.Need-length-requires Inv-loop μ-loop
 length-requires c κs = search needs
 
 loop-holds : tie.Need-loop-holds Inv-loop μ-loop
-unfolding laid
+unfolding laidRow
 loop-holds c = (search needs, (refl, refl))
 
-add-cell : tie.Need-add-cell Inv-loop μ-loop
-add-cell c = search needs
-
-shared-slice-read-cell : tie.Need-shared-slice-read-cell Inv-loop μ-loop
-unfolding bodyOf
-shared-slice-read-cell c = search needs
-
-add-cell-2 : tie.Need-add-cell-2 Inv-loop μ-loop
-add-cell-2 c = search needs
-
-add-cell-3 : tie.Need-add-cell-3 Inv-loop μ-loop
-add-cell-3 c = search needs
-
-shared-slice-read-cell-2 : tie.Need-shared-slice-read-cell-2 Inv-loop μ-loop
-unfolding bodyOf
-shared-slice-read-cell-2 c = search needs
-
-cell-requires : tie.Need-cell-requires Inv-loop μ-loop
-cell-requires c κs = search needs
+cell-in-requires : tie.Need-cell-in-requires Inv-loop μ-loop
+cell-in-requires c κs = search needs
 
 mul-room : tie.Need-mul-room Inv-loop μ-loop
 mul-room c = search needs
@@ -57,23 +43,22 @@ loop-less : tie.Need-loop-less Inv-loop μ-loop
 loop-less c = search needs
 
 loop-again : tie.Need-loop-again Inv-loop μ-loop
-unfolding cellOf
 loop-again c = (
   search needs,
-  (search needs, laid-more _ _ _ _ _ (c .before .before .before .before .loop .inv .1 .1) (c .cell .ensures)),
+  (search needs, laid-more _ _ _ _ _ _ _ _ (c .before .before .loop .inv .1 .1) (add-one _) refl (c .cell-in .ensures)),
 )
 
 same-length : tie.Need-same-length Inv-loop μ-loop
 same-length c = search needs
 
 returns : tie.Need-returns Inv-loop μ-loop
-unfolding cellsIn
+unfolding roomWithPicture
 returns c =
     let i = c .before .loop .i in
     let kind = c .before .before .before .before .before .args .kind in
     let cells = c .before .before .length .ensures .0 in
     let all : i ≡ lengthOf kind = omega (arith, cells) in
-    rw (all, cells) at (c .before .loop .inv .1 .1)
+    rw all at (c .before .loop .inv .1 .1)
 
 pub lay-spec : {M : Type 1} → statement M
 lay-spec =
@@ -83,12 +68,7 @@ lay-spec =
     μ-loop
     length-requires
     loop-holds
-    add-cell
-    shared-slice-read-cell
-    add-cell-2
-    add-cell-3
-    shared-slice-read-cell-2
-    cell-requires
+    cell-in-requires
     mul-room
     slice-write-room
     add-i

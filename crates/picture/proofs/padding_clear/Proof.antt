@@ -1,24 +1,30 @@
--- `picture::padding_clear` meets its contract: a 1 shifted to the left is a power of 2. Assumes nothing.
-use native.Mathlib.Omega.{arith}
-use lib.Pow.{pow-pos}
-use borrow.Author.Needs.{needs}
-use Rattle.picture.specs.Reader.{spareBits, paddingClear}
-use Rattle.picture.proofs.Shifts.{one-shifted}
+-- `picture::padding_clear` meets its contract, by its tests and its callees' contracts. Assumes nothing.
 use Rattle.picture.proofs.padding_clear.Statement.{statement}
+use borrow.Author.Needs.{needs}
+use mathlib.Core.Path.{sym}
 use Rattle.picture.proofs.padding_clear.Tie as tie
 
-sub-result : tie.Need-sub-result
-sub-result c = search needs
+body-requires : tie.Need-body-requires
+body-requires c κs = search needs
 
-shl-result : tie.Need-shl-result
-shl-result c = search needs
+length-requires : tie.Need-length-requires
+length-requires c κs = search needs
 
-rem-result : tie.Need-rem-result
-rem-result c = rw (one-shifted (spareBits (c .args .cells)) (omega arith)) (pow-pos (spareBits (c .args .cells)))
+shared-slice-read-spare-clear : tie.Need-shared-slice-read-spare-clear
+shared-slice-read-spare-clear c = search needs
+
+spare-clear-requires : tie.Need-spare-clear-requires
+spare-clear-requires c κs = search needs
 
 returns : tie.Need-returns
-unfolding paddingClear
-returns c = simp (one-shifted (spareBits (c .args .cells)) (omega arith))
+returns c = simp (sym (c .spare-clear .ensures), sym (c .before .before .length .ensures .0), sym (c .before .before .before .body .ensures .0))
 
 pub padding-clear-spec : {M : Type 1} → statement M
-padding-clear-spec = tie.close (tie.spec sub-result shl-result rem-result returns)
+padding-clear-spec =
+    tie.close
+    (tie.spec
+    body-requires
+    length-requires
+    shared-slice-read-spare-clear
+    spare-clear-requires
+    returns)

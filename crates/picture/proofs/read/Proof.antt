@@ -1,7 +1,7 @@
 -- `picture::read` meets its contract: a sound picture is laid and taken, and of a refused one nothing. Assumes nothing.
 use mathlib.Core.Path.{sym, _∙_}
 use borrow.Author.Needs.{needs}
-use Rattle.picture.specs.Reader.{answerOf, filledOf, readOf, roomOf}
+use Rattle.picture.specs.Reader.{answerOf, filledOf, readerAnswer, readerRoom}
 use Rattle.picture.proofs.Verdicts.{sound-whole}
 use Rattle.picture.proofs.read.Statement.{statement}
 use Rattle.picture.proofs.read.Tie as tie
@@ -33,14 +33,14 @@ same-length : tie.Need-same-length
 same-length c = search needs
 
 returns : tie.Need-returns
-unfolding readOf roomOf answerOf filledOf
+unfolding readerAnswer readerRoom answerOf filledOf
 returns c =
     let judged = c .before .before .before .before .before .before .before .before .judge in
     let verdict = sym (judged .ensures) ∙ c .before .before .before .before .before .before .kind .given .1 in
     (simp (verdict, c .taken .ensures), simp (verdict, c .before .before .before .lay .ensures))
 
 returns-2 : tie.Need-returns-2
-unfolding readOf roomOf answerOf filledOf
+unfolding readerAnswer readerRoom answerOf filledOf
 returns-2 c =
     let verdict = sym (c .before .before .before .before .judge .ensures) ∙ c .before .before .number .given .1 in
     (simp (verdict, c .refused .ensures), simp verdict)

@@ -3,7 +3,7 @@ use mathlib.Core.Path.{sym}
 use borrow.Author.Needs.{needs}
 use borrow.Author.Tests.{le-leb, lt-leb}
 use Rattle.reading.proofs.address.Statement.{statement}
-use Rattle.reading.specs.Reading.{addressOf}
+use Rattle.reading.specs.Reading.{addressCell}
 use Rattle.reading.proofs.address.Tie as tie
 
 cast-byte : tie.Need-cast-byte
@@ -13,7 +13,7 @@ step-requires : tie.Need-step-requires
 step-requires c κs = search needs
 
 returns : tie.Need-returns
-unfolding addressOf
+unfolding addressCell
 returns c = simp (le-leb _ _ (c .if1 .taken), sym (c .before .step .ensures))
 
 add-t12 : tie.Need-add-t12
@@ -23,7 +23,7 @@ track-of-requires : tie.Need-track-of-requires
 track-of-requires c κs = search needs
 
 returns-2 : tie.Need-returns-2
-unfolding addressOf
+unfolding addressCell
 returns-2 c =
     simp (
       sym (c .track-of .ensures),

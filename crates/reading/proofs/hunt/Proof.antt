@@ -3,14 +3,14 @@ use mathlib.Core.Path.{sym}
 use borrow.Author.Needs.{needs}
 use borrow.Author.Tests.{le-leb, lt-leb}
 use Rattle.reading.proofs.hunt.Statement.{statement}
-use Rattle.reading.specs.Reading.{huntOf}
+use Rattle.reading.specs.Reading.{huntCell}
 use Rattle.reading.proofs.hunt.Tie as tie
 
 pulses-requires : tie.Need-pulses-requires
 pulses-requires c κs = search needs
 
 returns : tie.Need-returns
-unfolding huntOf
+unfolding huntCell
 returns c = simp (le-leb _ _ (c .if1 .taken), sym (c .before .pulses .ensures))
 
 pass-requires : tie.Need-pass-requires
@@ -20,7 +20,7 @@ hunted-requires : tie.Need-hunted-requires
 hunted-requires c κs = search needs
 
 returns-2 : tie.Need-returns-2
-unfolding huntOf
+unfolding huntCell
 returns-2 c =
     simp (
       c .hunted .ensures,

@@ -2,7 +2,7 @@
 use mathlib.Core.Path.{sym}
 use borrow.Author.Needs.{needs}
 use Rattle.reading.proofs.met.Statement.{statement}
-use Rattle.reading.specs.Reading.{metOf}
+use Rattle.reading.specs.Reading.{windowStep}
 use Rattle.reading.proofs.met.Tie as tie
 
 enum-known-sought : tie.Need-enum-known-sought
@@ -24,11 +24,11 @@ is-deleted-requires : tie.Need-is-deleted-requires
 is-deleted-requires c κs = search needs
 
 returns : tie.Need-returns
-unfolding metOf
+unfolding windowStep
 returns c = simp (c .missed .ensures, c .before .before .sought .given .1)
 
 returns-2 : tie.Need-returns-2
-unfolding metOf
+unfolding windowStep
 returns-2 c =
     simp (
       sym (c .is-deleted .ensures),

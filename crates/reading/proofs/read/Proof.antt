@@ -3,7 +3,7 @@ use mathlib.Core.Path.{sym}
 use borrow.Author.Needs.{needs}
 use borrow.Author.Tests.{eq-eqb, le-leb, lt-leb, ne-eqb}
 use Rattle.reading.proofs.read.Statement.{statement}
-use Rattle.reading.specs.Reading.{readOf}
+use Rattle.reading.specs.Reading.{dataCell}
 use Rattle.reading.proofs.read.Tie as tie
 
 cast-byte : tie.Need-cast-byte
@@ -16,11 +16,11 @@ sub-t10 : tie.Need-sub-t10
 sub-t10 c = search needs
 
 returns : tie.Need-returns
-unfolding readOf
+unfolding dataCell
 returns c = simp (le-leb _ _ (c .if1 .taken), sym (c .before .step .ensures))
 
 returns-2 : tie.Need-returns-2
-unfolding readOf
+unfolding dataCell
 returns-2 c =
     simp (
       eq-eqb _ _ (c .if2 .taken),
@@ -32,7 +32,7 @@ again-requires : tie.Need-again-requires
 again-requires c κs = search needs
 
 returns-3 : tie.Need-returns-3
-unfolding readOf
+unfolding dataCell
 returns-3 c =
     simp (
       c .again .ensures,

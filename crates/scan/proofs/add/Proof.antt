@@ -2,7 +2,7 @@
 use mathlib.Core.Path.{sym}
 use borrow.Author.Tests.{lt-ltb, le-ltb}
 use borrow.Author.Needs.{needs}
-use Rattle.scan.specs.Ids.{addedOf, pushedOf, wholeOf}
+use Rattle.scan.specs.Ids.{idByteStep, pushedOf, wholeOf}
 use Rattle.scan.proofs.add.Statement.{statement}
 use Rattle.scan.proofs.add.Tie as tie
 
@@ -25,7 +25,7 @@ pick-requires-4 : tie.Need-pick-requires-4
 pick-requires-4 c κs = search needs
 
 returns : tie.Need-returns
-unfolding addedOf pushedOf
+unfolding idByteStep pushedOf
 returns c =
     rw (
       lt-ltb _ _ (c .before .before .before .before .if1 .taken),
@@ -37,7 +37,7 @@ returns c =
     )
 
 returns-2 : tie.Need-returns-2
-unfolding addedOf wholeOf
+unfolding idByteStep wholeOf
 returns-2 c = simp (le-ltb _ _ (c .if1 .left), sym (c .before .step .ensures))
 
 pub add-spec : {M : Type 1} → statement M

@@ -2,7 +2,7 @@
 use mathlib.Core.Path.{sym}
 use borrow.Author.Needs.{needs}
 use Rattle.scan.proofs.hear.Statement.{statement}
-use Rattle.scan.specs.Ids.{heardOf}
+use Rattle.scan.specs.Ids.{idStep}
 use Rattle.scan.proofs.hear.Tie as tie
 
 run-in-requires : tie.Need-run-in-requires
@@ -15,7 +15,7 @@ look-requires : tie.Need-look-requires
 look-requires c κs = search needs
 
 returns : tie.Need-returns
-unfolding heardOf
+unfolding idStep
 returns c = simp (c .look .ensures, c .before .pass .ensures, sym (c .before .before .run-in .ensures))
 
 pub hear-spec : {M : Type 1} → statement M

@@ -1,7 +1,7 @@
 -- `scan::look` meets its contract, by its tests and its callees' contracts. Assumes nothing.
 use borrow.Author.Needs.{needs}
 use Rattle.scan.proofs.look.Statement.{statement}
-use Rattle.scan.specs.Ids.{lookedOf}
+use Rattle.scan.specs.Ids.{idMarkStep}
 use Rattle.scan.proofs.look.Tie as tie
 
 enum-known-passed : tie.Need-enum-known-passed
@@ -17,11 +17,11 @@ begin-requires : tie.Need-begin-requires
 begin-requires c κs = search needs
 
 returns : tie.Need-returns
-unfolding lookedOf
+unfolding idMarkStep
 returns c = simp (c .grow .ensures, c .before .before .passed .given .1)
 
 returns-2 : tie.Need-returns-2
-unfolding lookedOf
+unfolding idMarkStep
 returns-2 c = simp (c .begin .ensures, c .before .before .passed2 .given .1)
 
 pub look-spec : {M : Type 1} → statement M

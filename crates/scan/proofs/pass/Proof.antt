@@ -2,7 +2,7 @@
 use mathlib.Core.Path.{sym}
 use borrow.Author.Needs.{needs}
 use Rattle.scan.proofs.pass.Statement.{statement}
-use Rattle.scan.specs.Marks.{passedOf}
+use Rattle.scan.specs.Marks.{markStep}
 use Rattle.scan.proofs.pass.Tie as tie
 
 lead-requires : tie.Need-lead-requires
@@ -18,11 +18,11 @@ run-on-requires : tie.Need-run-on-requires
 run-on-requires c κs = search needs
 
 returns : tie.Need-returns
-unfolding passedOf
+unfolding markStep
 returns c = simp (c .if1 .taken, sym (c .before .carries-mark .ensures), sym (c .before .before .lead .ensures))
 
 returns-2 : tie.Need-returns-2
-unfolding passedOf
+unfolding markStep
 returns-2 c =
     simp (
       sym (c .run-on .ensures),

@@ -1,7 +1,7 @@
 -- `search::hears` meets its contract, by its tests and its callees' contracts. Assumes nothing.
 use borrow.Author.Needs.{needs}
 use Rattle.search.proofs.hears.Statement.{statement}
-use Rattle.search.specs.Search.{hearsOf}
+use Rattle.search.specs.Search.{searchStep}
 use Rattle.search.proofs.hears.Tie as tie
 
 enum-known-heard : tie.Need-enum-known-heard
@@ -14,11 +14,11 @@ found-requires : tie.Need-found-requires
 found-requires c κs = search needs
 
 returns : tie.Need-returns
-unfolding hearsOf
+unfolding searchStep
 returns c = simp (c .before .heard .given .1)
 
 returns-2 : tie.Need-returns-2
-unfolding hearsOf
+unfolding searchStep
 returns-2 c = simp (c .found .ensures, c .before .before .heard2 .given .1)
 
 pub hears-spec : {M : Type 1} → statement M

@@ -3,14 +3,14 @@ use mathlib.Core.Path.{sym}
 use borrow.Author.Needs.{needs}
 use borrow.Author.Tests.{le-leb, lt-leb}
 use Rattle.search.proofs.search.Statement.{statement}
-use Rattle.search.specs.Search.{searchedOf}
+use Rattle.search.specs.Search.{searchCell}
 use Rattle.search.proofs.search.Tie as tie
 
 pulses-requires : tie.Need-pulses-requires
 pulses-requires c κs = search needs
 
 returns : tie.Need-returns
-unfolding searchedOf
+unfolding searchCell
 returns c = simp (le-leb _ _ (c .if1 .taken), sym (c .before .pulses .ensures))
 
 hear-requires : tie.Need-hear-requires
@@ -20,7 +20,7 @@ hears-requires : tie.Need-hears-requires
 hears-requires c κs = search needs
 
 returns-2 : tie.Need-returns-2
-unfolding searchedOf
+unfolding searchCell
 returns-2 c =
     simp (
       c .hears .ensures,

@@ -1,12 +1,11 @@
 -- `search::served` meets its contract, by its tests and its callees' contracts. Assumes nothing.
 use mathlib.Core.List.{[], _∷_}
-use mathlib.Core.Path.{refl}
-use mathlib.Core.Path.{sym}
+use mathlib.Core.Path.{refl, sym}
 use borrow.Author.Needs.{needs}
-use Rattle.order.proofs.Arms.{jobs}
-use Rattle.order.specs.declared.Job.the-variants as job
+use Rattle.command.proofs.Arms.{jobs}
+use Rattle.command.specs.declared.Job.the-variants as job
 use Rattle.search.proofs.served.Statement.{statement}
-use Rattle.search.specs.Search.{servedOf}
+use Rattle.search.specs.Search.{afterMatch}
 use Rattle.search.proofs.served.Tie as tie
 
 enum-told : tie.Need-enum-told
@@ -28,16 +27,16 @@ add-t7 : tie.Need-add-t7
 add-t7 c = search needs
 
 returns : tie.Need-returns
-unfolding servedOf
+unfolding afterMatch
 returns c = simp (sym (c .size .ensures .0), c .before .enum-told .given .1)
 
 returns-2 : tie.Need-returns-2
-unfolding servedOf
+unfolding afterMatch
 returns-2 c = simp (sym (c .size2 .ensures .0), c .before .enum-told2 .given .1)
 
 returns-3 : tie.Need-returns-3
-unfolding servedOf
-returns-3 c = jobs (servedOf (c .before .args .length)) (c .before .args .job) (job.Nothing ∷ job.Verify ∷ job.ReadAddress ∷ job.ReadTrack ∷ job.WriteTrack ∷ []) refl (c .match .keys3)
+unfolding afterMatch
+returns-3 c = jobs (afterMatch (c .before .args .length)) (c .before .args .job) (job.Nothing ∷ job.Verify ∷ job.ReadAddress ∷ job.ReadTrack ∷ job.WriteTrack ∷ []) refl (c .match .keys3)
 
 pub served-spec : {M : Type 1} → statement M
 served-spec =

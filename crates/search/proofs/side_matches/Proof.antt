@@ -1,19 +1,22 @@
 -- `search::side_matches` meets its contract, by its tests and its callees' contracts. Assumes nothing.
-use mathlib.Core.Path.{sym}
-use borrow.Author.Needs.{needs}
 use Rattle.search.proofs.side_matches.Statement.{statement}
 use Rattle.search.specs.Search.{sideMatches}
+use borrow.Author.Needs.{needs}
 use Rattle.search.proofs.side_matches.Tie as tie
 
-bit-requires : tie.Need-bit-requires
-bit-requires c κs = search needs
+enum-told : tie.Need-enum-told
+enum-told c = search needs
 
-side-of-requires : tie.Need-side-of-requires
-side-of-requires c κs = search needs
+enum-known-asked : tie.Need-enum-known-asked
+enum-known-asked c = search needs
 
 returns : tie.Need-returns
 unfolding sideMatches
-returns c = simp (sym (c .before .side-of .ensures), sym (c .before .before .bit .ensures))
+returns c = simp (c .enum-told .given .1)
+
+returns-2 : tie.Need-returns-2
+unfolding sideMatches
+returns-2 c = simp (c .before .asked .given .1)
 
 pub side-matches-spec : {M : Type 1} → statement M
-side-matches-spec = tie.close (tie.spec bit-requires side-of-requires returns)
+side-matches-spec = tie.close (tie.spec enum-told enum-known-asked returns returns-2)

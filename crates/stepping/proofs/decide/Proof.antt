@@ -3,14 +3,14 @@ use mathlib.Core.Path.{sym}
 use borrow.Author.Needs.{needs}
 use borrow.Author.Tests.{eq-eqb, ne-eqb}
 use Rattle.stepping.proofs.decide.Statement.{statement}
-use Rattle.stepping.specs.Stepping.{decidedOf}
+use Rattle.stepping.specs.Stepping.{seekDecision}
 use Rattle.stepping.proofs.decide.Tie as tie
 
 stop-requires : tie.Need-stop-requires
 stop-requires c κs = search needs
 
 returns : tie.Need-returns
-unfolding decidedOf
+unfolding seekDecision
 returns c = simp (c .stop .ensures, eq-eqb _ _ (c .before .if1 .taken))
 
 step-time-requires : tie.Need-step-time-requires
@@ -20,7 +20,7 @@ step-requires : tie.Need-step-requires
 step-requires c κs = search needs
 
 returns-2 : tie.Need-returns-2
-unfolding decidedOf
+unfolding seekDecision
 returns-2 c =
     simp (
       c .step .ensures,

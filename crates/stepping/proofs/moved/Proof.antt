@@ -1,7 +1,7 @@
 -- `stepping::moved` meets its contract, by its tests and its callees' contracts. Assumes nothing.
 use borrow.Author.Needs.{needs}
 use Rattle.stepping.proofs.moved.Statement.{statement}
-use Rattle.stepping.specs.Stepping.{movedOf}
+use Rattle.stepping.specs.Stepping.{trackAfter}
 use Rattle.stepping.proofs.moved.Tie as tie
 
 add-result : tie.Need-add-result
@@ -17,15 +17,15 @@ cast-result-2 : tie.Need-cast-result-2
 cast-result-2 c = search needs
 
 returns : tie.Need-returns
-unfolding movedOf
+unfolding trackAfter
 returns c = simp (c .if2 .taken, c .before .if1 .taken)
 
 returns-2 : tie.Need-returns-2
-unfolding movedOf
+unfolding trackAfter
 returns-2 c = simp (c .if2 .left, c .before .if1 .taken)
 
 returns-3 : tie.Need-returns-3
-unfolding movedOf
+unfolding trackAfter
 returns-3 c = simp (c .if1 .left)
 
 pub moved-spec : {M : Type 1} → statement M

@@ -2,21 +2,21 @@
 use mathlib.Core.Path.{sym}
 use borrow.Author.Needs.{needs}
 use Rattle.stepping.proofs.step.Statement.{statement}
-use Rattle.stepping.specs.Stepping.{stepOf}
+use Rattle.stepping.specs.Stepping.{stepAct}
 use Rattle.stepping.proofs.step.Tie as tie
 
 stop-requires : tie.Need-stop-requires
 stop-requires c κs = search needs
 
 returns : tie.Need-returns
-unfolding stepOf
+unfolding stepAct
 returns c = simp (c .stop .ensures, c .before .if1 .taken)
 
 moved-requires : tie.Need-moved-requires
 moved-requires c κs = search needs
 
 returns-2 : tie.Need-returns-2
-unfolding stepOf
+unfolding stepAct
 returns-2 c = simp (sym (c .moved .ensures), c .before .if1 .left)
 
 pub step-spec : {M : Type 1} → statement M

@@ -1,38 +1,38 @@
 -- `stepping::stop` meets its contract, by its tests and its callees' contracts. Assumes nothing.
-use mathlib.Core.Path.{sym}
-use borrow.Author.Needs.{needs}
 use Rattle.stepping.proofs.stop.Statement.{statement}
-use Rattle.stepping.specs.Stepping.{stopOf}
+use Rattle.stepping.specs.Stepping.{stopAct}
+use borrow.Author.Needs.{needs}
+use mathlib.Core.Path.{sym}
 use Rattle.stepping.proofs.stop.Tie as tie
 
-bit-requires : tie.Need-bit-requires
-bit-requires c κs = search needs
+verifies-track-requires : tie.Need-verifies-track-requires
+verifies-track-requires c κs = search needs
+
+is-restore-requires : tie.Need-is-restore-requires
+is-restore-requires c κs = search needs
 
 returns : tie.Need-returns
-unfolding stopOf
-returns c =
-    simp (
-      c .if2 .taken,
-      c .before .before .before .if1 .taken,
-      sym (c .before .before .before .before .bit .ensures),
-    )
+unfolding stopAct
+returns c = simp (c .if2 .taken, sym (c .before .before .is-restore .ensures), c .before .before .before .if1 .taken, sym (c .before .before .before .before .verifies-track .ensures))
 
 settle-time-requires : tie.Need-settle-time-requires
 settle-time-requires c κs = search needs
 
 returns-2 : tie.Need-returns-2
-unfolding stopOf
-returns-2 c =
-    simp (
-      sym (c .settle-time .ensures),
-      c .before .if2 .left,
-      c .before .before .before .before .if1 .taken,
-      sym (c .before .before .before .before .before .bit .ensures),
-    )
+unfolding stopAct
+returns-2 c = simp (sym (c .settle-time .ensures), c .before .if2 .left, sym (c .before .before .before .is-restore .ensures), c .before .before .before .before .if1 .taken, sym (c .before .before .before .before .before .verifies-track .ensures))
 
 returns-3 : tie.Need-returns-3
-unfolding stopOf
-returns-3 c = simp (c .if1 .left, sym (c .before .bit .ensures))
+unfolding stopAct
+returns-3 c = simp (c .if1 .left, sym (c .before .verifies-track .ensures))
 
 pub stop-spec : {M : Type 1} → statement M
-stop-spec = tie.close (tie.spec bit-requires returns settle-time-requires returns-2 returns-3)
+stop-spec =
+    tie.close
+    (tie.spec
+    verifies-track-requires
+    is-restore-requires
+    returns
+    settle-time-requires
+    returns-2
+    returns-3)

@@ -2,21 +2,21 @@
 use borrow.Author.Needs.{needs}
 use borrow.Author.Tests.{le-leb, lt-leb}
 use Rattle.stepping.proofs.stop_in.Statement.{statement}
-use Rattle.stepping.specs.Stepping.{stoppedOf}
+use Rattle.stepping.specs.Stepping.{stopTurn}
 use Rattle.stepping.proofs.stop_in.Tie as tie
 
 stop-requires : tie.Need-stop-requires
 stop-requires c κs = search needs
 
 returns : tie.Need-returns
-unfolding stoppedOf
+unfolding stopTurn
 returns c = simp (c .stop .ensures, le-leb _ _ (c .before .if1 .taken))
 
 sub-t5 : tie.Need-sub-t5
 sub-t5 c = search needs
 
 returns-2 : tie.Need-returns-2
-unfolding stoppedOf
+unfolding stopTurn
 returns-2 c = simp (lt-leb _ _ (c .if1 .left))
 
 pub stop-in-spec : {M : Type 1} → statement M

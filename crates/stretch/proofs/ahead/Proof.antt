@@ -7,14 +7,14 @@ use denote.Ref.{now}
 use borrow.Author.Needs.{needs}
 use Rattle.stretch.proofs.Opening.{opens, found}
 use Rattle.stretch.proofs.ahead.Statement.{statement}
-use Rattle.stretch.specs.Stretches.{reachOf, reachIn, aheadOf}
+use Rattle.stretch.specs.Stretches.{reachOf, reachIn, stretchAhead}
 use Rattle.stretch.proofs.ahead.Tie as tie
 
 cast-if1 : tie.Need-cast-if1
 cast-if1 c = search needs
 
 returns : tie.Need-returns
-unfolding aheadOf
+unfolding stretchAhead
 returns c = (simp (c .if1 .taken), search needs)
 
 sub-least : tie.Need-sub-least

@@ -1,7 +1,7 @@
 -- `stretch::later` meets its contract, by its tests and its callees' contracts. Assumes nothing.
 use mathlib.Core.Path.{sym}
 use borrow.Author.Needs.{needs}
-use Rattle.stretch.specs.Stretches.{laterOf}
+use Rattle.stretch.specs.Stretches.{activityAfter}
 use Rattle.stretch.proofs.Arms.{later-else}
 use Rattle.stretch.proofs.later.Statement.{statement}
 use Rattle.stretch.proofs.later.Tie as tie
@@ -25,15 +25,15 @@ shorter-requires-3 : tie.Need-shorter-requires-3
 shorter-requires-3 c κs = search needs
 
 returns : tie.Need-returns
-unfolding laterOf
+unfolding activityAfter
 returns c = simp (sym (c .shorter .ensures), c .before .before .activity .given .1)
 
 returns-2 : tie.Need-returns-2
-unfolding laterOf
+unfolding activityAfter
 returns-2 c = simp (sym (c .shorter2 .ensures), c .before .before .activity2 .given .1)
 
 returns-3 : tie.Need-returns-3
-unfolding laterOf
+unfolding activityAfter
 returns-3 c = simp (sym (c .shorter3 .ensures), c .before .before .activity3 .given .1)
 
 returns-4 : tie.Need-returns-4

@@ -1,7 +1,7 @@
 -- `viewer::refusal` meets its contract, by its tests and its callees' contracts. Assumes nothing.
 use mathlib.Core.Path.{sym}
 use Rattle.viewer.proofs.refusal.Statement.{statement}
-use Rattle.viewer.specs.Views.{refusalOf}
+use Rattle.viewer.specs.Views.{viewRefusal}
 use borrow.Author.Needs.{needs}
 use Rattle.viewer.proofs.refusal.Tie as tie
 
@@ -18,7 +18,7 @@ cells-within-requires-2 : tie.Need-cells-within-requires-2
 cells-within-requires-2 c κs = search needs
 
 returns : tie.Need-returns
-unfolding refusalOf
+unfolding viewRefusal
 returns c =
     simp (
       c .if2 .taken,
@@ -30,7 +30,7 @@ returns c =
     )
 
 returns-2 : tie.Need-returns-2
-unfolding refusalOf
+unfolding viewRefusal
 returns-2 c =
     simp (
       c .if2 .left,
@@ -42,7 +42,7 @@ returns-2 c =
     )
 
 returns-3 : tie.Need-returns-3
-unfolding refusalOf
+unfolding viewRefusal
 returns-3 c = simp (c .if1 .left, sym (c .before .length-within2 .ensures), sym (c .before .before .length-within .ensures))
 
 pub refusal-spec : {M : Type 1} → statement M

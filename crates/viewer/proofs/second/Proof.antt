@@ -1,7 +1,7 @@
 -- `viewer::second` meets its contract, by its tests and its callees' contracts. Assumes nothing.
 use mathlib.Core.Path.{sym, ap, _∙_}
 use borrow.Author.Needs.{needs}
-use Rattle.viewer.specs.Views.{secondOf}
+use Rattle.viewer.specs.Views.{secondPlace}
 use Rattle.viewer.proofs.second.Statement.{statement}
 use Rattle.viewer.proofs.second.Tie as tie
 
@@ -15,12 +15,12 @@ enum-known-from : tie.Need-enum-known-from
 enum-known-from c = search needs
 
 returns : tie.Need-returns
-unfolding secondOf
-returns c = ap secondOf (sym (c .enum-told .given .1) ∙ c .before .before .span-on .ensures)
+unfolding secondPlace
+returns c = ap secondPlace (sym (c .enum-told .given .1) ∙ c .before .before .span-on .ensures)
 
 returns-2 : tie.Need-returns-2
-unfolding secondOf
-returns-2 c = ap secondOf (sym (c .before .from .given .1) ∙ c .before .before .before .span-on .ensures)
+unfolding secondPlace
+returns-2 c = ap secondPlace (sym (c .before .from .given .1) ∙ c .before .before .before .span-on .ensures)
 
 pub second-spec : {M : Type 1} → statement M
 second-spec = tie.close (tie.spec span-on-requires enum-told enum-known-from returns returns-2)

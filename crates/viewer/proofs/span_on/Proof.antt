@@ -3,7 +3,7 @@ use Prim.Native.Nat.{_-_}
 use native.Mathlib.Omega.{arith}
 use lib.ListN.{length}
 use borrow.Author.Needs.{needs}
-use Rattle.viewer.proofs.Bounds.{within-most}
+use Rattle.scan.proofs.Rows.{within-most}
 use Rattle.viewer.proofs.Search.{Along, starts, over, ends, again, less}
 use Rattle.viewer.proofs.span_on.Statement.{statement}
 use Rattle.viewer.proofs.span_on.Tie as tie

@@ -1,4 +1,4 @@
--- `viewer::view` meets its contract: in each arm the place that `find` tells is a part of its side. Assumes nothing.
+-- `viewer::view` meets its contract: in each arm the place that `find` gives is a part of its side. Assumes nothing.
 use mathlib.Core.Path.{_≡_, sym, ap, subst, _∙_}
 use mathlib.Core.List.{List}
 use Prim.Native.Nat.{ℕ, _≤_, _<_, _*_, _^_}
@@ -9,8 +9,8 @@ use denote.Ref.{now, ptr}
 use borrow.Author.Needs.{needs}
 use Rattle.viewer.specs.declared.Place.{Place}
 use Rattle.viewer.specs.declared.Place.the-variants.{Zero, One, Refused}
-use Rattle.viewer.specs.Views.{placeOf, viewOf, startOf}
-use Rattle.viewer.proofs.Bounds.{Fits, place-fits}
+use Rattle.viewer.specs.Views.{placeOf, partCells, partStart}
+use Rattle.viewer.proofs.Bounds.{PartFits, place-fits}
 use Rattle.viewer.proofs.view.Statement.{statement}
 use Rattle.viewer.proofs.view.Tie as tie
 
@@ -20,7 +20,7 @@ placed c = placeOf (now (c .args .side0)) (now (c .args .side1)) (c .args .mfm) 
 
 -- it is a part of its side
 abbrev FitsAt : tie.Start → Place → Type 0
-FitsAt c p = Fits (now (c .args .side0)) (now (c .args .side1)) p
+FitsAt c p = PartFits (now (c .args .side0)) (now (c .args .side1)) p
 
 fits : (c : tie.Start) (p : Place) → placed c ≡ p → FitsAt c p
 fits c p e =
@@ -29,10 +29,10 @@ fits c p e =
 
 -- the cells at a place, and where they start
 abbrev cellsAt : tie.Start → Place → List ℕ
-cellsAt c p = viewOf p (now (c .args .side0)) (now (c .args .side1))
+cellsAt c p = partCells p (now (c .args .side0)) (now (c .args .side1))
 
 abbrev startAt : tie.Start → Place → ℕ × ℕ
-startAt c p = startOf p (c .args .side0 .ptr) (c .args .side1 .ptr)
+startAt c p = partStart p (c .args .side0 .ptr) (c .args .side1 .ptr)
 
 -- what the function is to ensure, where the place is p
 at :
@@ -71,7 +71,7 @@ part-result-end : tie.Need-part-result-end
 part-result-end c = on0 (c .before) .1
 
 returns : tie.Need-returns
-unfolding viewOf startOf
+unfolding partCells partStart
 returns c =
     let told = c .before .before in
     at (told .before .before .before .before .before) (Zero _ _)
@@ -100,7 +100,7 @@ part-result-end-2 : tie.Need-part-result-end-2
 part-result-end-2 c = on1 (c .before) .1
 
 returns-2 : tie.Need-returns-2
-unfolding viewOf startOf
+unfolding partCells partStart
 returns-2 c =
     let told = c .before .before in
     at (told .before .before .before .before .before) (One _ _)
@@ -119,7 +119,7 @@ part-result-end-3 : tie.Need-part-result-end-3
 part-result-end-3 c = search needs
 
 returns-3 : tie.Need-returns-3
-unfolding viewOf startOf
+unfolding partCells partStart
 returns-3 c =
     let told = c .before in
     at (told .before .before .before .before .before) (Refused _)

@@ -1,19 +1,16 @@
 -- `writing::preamble` meets its contract, by its tests and its callees' contracts. Assumes nothing.
-use mathlib.Core.Path.{sym}
-use borrow.Author.Needs.{needs}
 use Rattle.writing.proofs.preamble.Statement.{statement}
-use Rattle.writing.specs.Writing.{preambleOf}
+use Rattle.writing.specs.Writing.{preambleTurn}
+use borrow.Author.Needs.{needs}
+use mathlib.Core.Path.{sym}
 use Rattle.writing.proofs.preamble.Tie as tie
 
 add-n : tie.Need-add-n
 add-n c = search needs
 
 returns : tie.Need-returns
-unfolding preambleOf
+unfolding preambleTurn
 returns c = simp (c .if1 .taken)
-
-chosen-mark-requires : tie.Need-chosen-mark-requires
-chosen-mark-requires c κs = search needs
 
 preamble-next-requires : tie.Need-preamble-next-requires
 preamble-next-requires c κs = search needs
@@ -25,24 +22,10 @@ preamble-cell-requires : tie.Need-preamble-cell-requires
 preamble-cell-requires c κs = search needs
 
 returns-2 : tie.Need-returns-2
-unfolding preambleOf
-returns-2 c =
-    simp (
-      sym (c .preamble-cell .ensures),
-      c .before .asks .ensures,
-      c .before .before .preamble-next .ensures,
-      sym (c .before .before .before .chosen-mark .ensures),
-      c .before .before .before .before .if1 .left,
-    )
+unfolding preambleTurn
+returns-2 c = simp (sym (c .preamble-cell .ensures), c .before .asks .ensures, c .before .before .preamble-next .ensures, c .before .before .before .if1 .left)
 
 pub preamble-spec : {M : Type 1} → statement M
 preamble-spec =
     tie.close
-    (tie.spec
-    add-n
-    returns
-    chosen-mark-requires
-    preamble-next-requires
-    asks-requires
-    preamble-cell-requires
-    returns-2)
+    (tie.spec add-n returns preamble-next-requires asks-requires preamble-cell-requires returns-2)

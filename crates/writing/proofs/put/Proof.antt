@@ -3,7 +3,7 @@ use mathlib.Core.Path.{sym}
 use borrow.Author.Needs.{needs}
 use borrow.Author.Tests.{eq-eqb, le-leb, lt-leb, ne-eqb}
 use Rattle.writing.proofs.put.Statement.{statement}
-use Rattle.writing.specs.Writing.{putOf}
+use Rattle.writing.specs.Writing.{putCell}
 use Rattle.writing.proofs.put.Tie as tie
 
 taken-requires : tie.Need-taken-requires
@@ -19,15 +19,15 @@ cast-t12 : tie.Need-cast-t12
 cast-t12 c = search needs
 
 returns : tie.Need-returns
-unfolding putOf
+unfolding putCell
 returns c = simp (sym (c .step .ensures), sym (c .before .taken .ensures), le-leb _ _ (c .before .before .if1 .taken))
 
 returns-2 : tie.Need-returns-2
-unfolding putOf
+unfolding putCell
 returns-2 c = simp (eq-eqb _ _ (c .if2 .taken), lt-leb _ _ (c .before .if1 .left))
 
 returns-3 : tie.Need-returns-3
-unfolding putOf
+unfolding putCell
 returns-3 c =
     simp (
       eq-eqb _ _ (c .if3 .taken),
@@ -39,7 +39,7 @@ again-requires : tie.Need-again-requires
 again-requires c κs = search needs
 
 returns-4 : tie.Need-returns-4
-unfolding putOf
+unfolding putCell
 returns-4 c =
     simp (
       c .again .ensures,

@@ -3,7 +3,7 @@
 use mathlib.Core.Path.{sym, _∙_}
 use native.Mathlib.Omega.{arith}
 use borrow.Author.Needs.{needs}
-use Rattle.bench.proofs.Laws.{within-fits}
+use Rattle.scan.proofs.Rows.{within-most}
 use Rattle.bench.proofs.rows.blank.Statement.{statement}
 use Rattle.bench.proofs.rows.blank.Tie as tie
 
@@ -16,22 +16,22 @@ length-within-requires c κs = search needs
 fill-requires : tie.Need-fill-requires
 fill-requires c κs =
     let test = c .before in
-    omega (arith, within-fits _ (sym (test .before .length-within .ensures) ∙ test .if1 .taken))
+    omega (arith, within-most _ (sym (test .before .length-within .ensures) ∙ test .if1 .taken))
 
 add-fill : tie.Need-add-fill
 add-fill c =
     let test = c .before .before .before in
-    record { fits = omega (arith, within-fits _ (sym (test .before .length-within .ensures) ∙ test .if1 .taken)) }
+    record { fits = omega (arith, within-most _ (sym (test .before .length-within .ensures) ∙ test .if1 .taken)) }
 
 fill-requires-2 : tie.Need-fill-requires-2
 fill-requires-2 c κs =
     let test = c .before .before .before in
-    omega (arith, within-fits _ (sym (test .before .length-within .ensures) ∙ test .if1 .taken))
+    omega (arith, within-most _ (sym (test .before .length-within .ensures) ∙ test .if1 .taken))
 
 returns : tie.Need-returns
 returns c =
     let test = c .before .before .before .before in
-    let fits = within-fits _ (sym (test .before .length-within .ensures) ∙ test .if1 .taken) in
+    let fits = within-most _ (sym (test .before .length-within .ensures) ∙ test .if1 .taken) in
     record { at = test .before .before .before .pre .at; current = fits; other = fits }
 
 returns-2 : tie.Need-returns-2

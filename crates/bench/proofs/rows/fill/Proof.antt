@@ -1,23 +1,22 @@
--- `bench::rows::fill` meets its contract: laying what is left comes to what laying all of it does. Assumes nothing.
-use mathlib.Core.Path.{_≡_, refl, sym, _∙_}
-use Prim.Native.Nat.{_-_}
-use native.Mathlib.Numerals.{add-one}
+-- `bench::rows::fill` meets its contract: each turn of the loop lays one cell more. Assumes nothing.
+use mathlib.Core.Path.{_≡_, refl}
+use Prim.Native.Nat.{_+_, _-_, _≤_}
 use native.Mathlib.Omega.{arith}
 use borrow.Author.Needs.{needs}
-use Rattle.bench.specs.Rows.{laid}
-use Rattle.bench.proofs.Laying.{laid-step, laid-none}
+use Rattle.common.specs.Laid.{laidRow}
+use Rattle.common.proofs.Laid.{laid-none, laid-more}
 use Rattle.bench.proofs.rows.fill.Statement.{statement}
 use Rattle.bench.proofs.rows.fill.Tie as tie
 
 abbrev Inv-loop : tie.InvT-loop
 Inv-loop cells₀ from to cell i₀ cells i =
-    laid cells i (to - i) (λ _. cell) ≡ laid cells₀ from (to - from) (λ _. cell)
+    (from ≤ i) × ((i - from ≤ to - from) × (cells ≡ laidRow cells₀ (λ k. from + k) (λ _. cell) (i - from)))
 
 abbrev μ-loop : tie.MeasureT-loop
 μ-loop cells₀ from to cell i₀ cells i = to - i
 
 loop-holds : tie.Need-loop-holds Inv-loop μ-loop
-loop-holds c = refl
+loop-holds c = (search needs, (search needs, laid-none _ _ _ _ (omega arith)))
 
 mul-cells : tie.Need-mul-cells Inv-loop μ-loop
 mul-cells c = search needs
@@ -33,10 +32,16 @@ loop-less c = search needs
 
 loop-again : tie.Need-loop-again Inv-loop μ-loop
 loop-again c =
-    sym (laid-step _ _ _ _ _ _ _ (omega arith) (add-one (c .before .loop .i)) refl) ∙ c .before .loop .inv
+    let inv = c .before .loop .inv in
+    let low = inv .0 in
+    (search needs, (omega arith, laid-more _ _ _ _ _ _ _ _ (inv .1 .1) (omega arith) (omega arith) refl))
 
 returns : tie.Need-returns Inv-loop μ-loop
-returns c = sym (laid-none _ _ _ _ (omega arith)) ∙ c .before .loop .inv
+returns c =
+    let inv = c .before .loop .inv in
+    let args = c .before .before .args in
+    let all : c .before .loop .i - args .from ≡ args .to - args .from = omega (arith, inv .1 .0) in
+    rw all at (inv .1 .1)
 
 pub fill-spec : {M : Type 1} → statement M
 fill-spec =

@@ -1,43 +1,23 @@
--- `bench::rows::set` meets its contract: laying what is left comes to what laying all of it does. Assumes nothing.
-use mathlib.Core.Path.{_≡_, sym, ap, _∙_}
-use mathlib.Core.List.{List}
-use Prim.Native.Nat.{ℕ, _+_, _-_, _≤_, _<_}
+-- `bench::rows::set` meets its contract: each turn of the loop lays one cell more. Assumes nothing.
+use mathlib.Core.Path.{_≡_, refl, ap}
+use Prim.Native.Nat.{ℕ, _+_, _-_, _≤_}
 use native.Mathlib.Omega.{arith}
-use lib.ListN.{getD, set}
+use lib.ListN.{getD}
 use borrow.Author.Needs.{needs}
-use Rattle.bench.specs.Rows.{laid}
-use Rattle.bench.proofs.Laying.{laid-step, laid-none}
+use Rattle.common.specs.Laid.{laidRow}
+use Rattle.common.proofs.Laid.{laid-none, laid-more}
 use Rattle.bench.proofs.rows.set.Statement.{statement}
 use Rattle.bench.proofs.rows.set.Tie as tie
 
--- the cell of a place, and what is left to lay from number i on
-abbrev behind : List ℕ → ℕ → ℕ → ℕ
-behind numbers place at = getD numbers (at + 1 - place) 0
-
-abbrev from : List ℕ → List ℕ → ℕ → ℕ → ℕ → List ℕ
-from row numbers place count i = laid row (place + i - 1) (count - i) (behind numbers place)
-
-begin : (row numbers : List ℕ) (place count : ℕ)
-    → from row numbers place count 1 ≡ laid row place (count - 1) (behind numbers place)
-begin row numbers place count = ap (λ (at : ℕ). laid row at (count - 1) (behind numbers place)) (omega arith)
-
-next : (row numbers : List ℕ) (place count i : ℕ) → 1 ≤ i → i < count
-    → from row numbers place count i ≡ from (set row (place + i - 1) (getD numbers i 0)) numbers place count (i + 1)
-next row numbers place count i h g =
-    laid-step row (behind numbers place) (place + i - 1) (place + (i + 1) - 1) (count - (i + 1)) (count - i) _
-    (omega arith)
-    (omega arith)
-    (ap (λ (n : ℕ). getD numbers n 0) (omega arith))
-
 abbrev Inv-loop : tie.InvT-loop
 Inv-loop cells₀ place count numbers i₀ cells i =
-    (1 ≤ i) × (from cells numbers place count i ≡ laid cells₀ place (count - 1) (behind numbers place))
+    (1 ≤ i) × ((i - 1 ≤ count - 1) × (cells ≡ laidRow cells₀ (λ k. place + k) (λ k. getD numbers (k + 1) 0) (i - 1)))
 
 abbrev μ-loop : tie.MeasureT-loop
 μ-loop cells₀ place count numbers i₀ cells i = count - i
 
 loop-holds : tie.Need-loop-holds Inv-loop μ-loop
-loop-holds c = (search needs, begin _ (c .args .t3) _ _)
+loop-holds c = (search needs, (search needs, laid-none _ _ _ _ refl))
 
 mul-cells : tie.Need-mul-cells Inv-loop μ-loop
 mul-cells c = search needs
@@ -64,14 +44,19 @@ loop-less : tie.Need-loop-less Inv-loop μ-loop
 loop-less c = search needs
 
 loop-again : tie.Need-loop-again Inv-loop μ-loop
-loop-again c = (
-  search needs,
-  sym (next _ (c .before .before .args .t3) _ _ _ (c .before .loop .inv .0) (c .loop-test .taken))
-      ∙ c .before .loop .inv .1,
-)
+loop-again c =
+    let inv = c .before .loop .inv in
+    let low = inv .0 in
+    let numbers = c .before .before .args .t3 in
+    let i = c .before .loop .i in
+    let is : getD numbers i 0 ≡ getD numbers (i - 1 + 1) 0 = ap (λ (k : ℕ). getD numbers k 0) (omega arith) in
+    (search needs, (omega arith, laid-more _ _ _ _ _ _ _ _ (inv .1 .1) (omega arith) (omega arith) is))
 
 returns : tie.Need-returns Inv-loop μ-loop
-returns c = sym (laid-none _ _ _ _ (omega arith)) ∙ c .before .loop .inv .1
+returns c =
+    let inv = c .before .loop .inv in
+    let all : c .before .loop .i - 1 ≡ c .before .before .args .count - 1 = omega (arith, inv .1 .0) in
+    rw all at (inv .1 .1)
 
 pub set-spec : {M : Type 1} → statement M
 set-spec =

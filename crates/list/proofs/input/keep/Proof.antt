@@ -4,18 +4,18 @@ use mathlib.Core.List.{List}
 use denote.Ref.{now}
 use mathlib.Core.Path.{_≡_, refl, ap, _∙_}
 use Prim.Native.Nat.{ℕ, _+_, _-_, _≤_}
+use native.Mathlib.Numerals.{add-one}
 use native.Mathlib.Omega.{arith}
 use lib.ListN.{length, getD}
 use borrow.Author.Needs.{needs}
-use Rattle.picture.specs.Cells.{laid}
-use Rattle.picture.proofs.Laying.{laid-more}
-use Rattle.picture.proofs.Laws.{laid-beyond}
+use Rattle.common.specs.Laid.{laidRow}
+use Rattle.common.proofs.Laid.{laid-out, laid-more}
 use Rattle.list.proofs.input.keep.Statement.{statement}
 use Rattle.list.proofs.input.keep.Tie as tie
 
 abbrev Inv-loop : tie.InvT-loop
 Inv-loop buffer₀ from held left i₀ buffer i =
-    (i ≤ left) × ((length buffer ≡ length buffer₀) × (buffer ≡ laid (λ k. getD buffer₀ (from + k) 0) i buffer₀))
+    (i ≤ left) × ((length buffer ≡ length buffer₀) × (buffer ≡ laidRow buffer₀ (λ k. k) (λ k. getD buffer₀ (from + k) 0) i))
 
 abbrev μ-loop : tie.MeasureT-loop
 μ-loop buffer₀ from held left i₀ buffer i = left - i
@@ -24,7 +24,7 @@ sub-left : tie.Need-sub-left Inv-loop μ-loop
 sub-left c = search needs
 
 loop-holds : tie.Need-loop-holds Inv-loop μ-loop
-unfolding laid
+unfolding laidRow
 loop-holds c = (search needs, (refl, refl))
 
 add-buffer : tie.Need-add-buffer Inv-loop μ-loop
@@ -47,15 +47,11 @@ loop-again c =
     let laying = c .before .before .loop .inv .1 .1 in
     let from = c .before .before .before .args .from in
     let i = c .before .before .loop .i in
+    let first = now (c .before .before .before .args .buffer) in
     let still =
     ap (λ (l : List ℕ). getD l (from + i) 0) laying
-    ∙ laid-beyond (λ k. getD (now (c .before .before .before .args .buffer)) (from + k) 0)
-    (now (c .before .before .before .args .buffer))
-    i
-    (from + i)
-    0
-    (omega arith) in
-    (search needs, (search needs, laid-more _ _ _ _ _ laying still))
+    ∙ laid-out first (λ k. k) (λ k. getD first (from + k) 0) i (from + i) 0 (λ k l e. omega arith) in
+    (search needs, (search needs, laid-more _ _ _ _ _ _ _ _ laying (add-one _) refl still))
 
 same-length : tie.Need-same-length Inv-loop μ-loop
 same-length c = search needs

@@ -1,7 +1,7 @@
 -- `list::lines::put_head` meets its contract, by its tests and its callees' contracts. Assumes nothing.
 use native.Mathlib.Omega.{arith}
 use Rattle.text.specs.Hex.{hexOf}
-use Rattle.list.specs.Lines.{headOf}
+use Rattle.list.specs.Lines.{headText}
 use Rattle.list.proofs.lines.put_head.Statement.{statement}
 use borrow.Author.Needs.{needs}
 use Rattle.list.proofs.lines.put_head.Tie as tie
@@ -12,14 +12,11 @@ hex-requires c κs = search needs
 digit-requires : tie.Need-digit-requires
 digit-requires c κs = search needs
 
-letter-requires : tie.Need-letter-requires
-letter-requires c κs = search needs
+array-read-t15 : tie.Need-array-read-t15
+array-read-t15 c = search needs
 
-array-read-t16 : tie.Need-array-read-t16
-array-read-t16 c = search needs
-
-array-read-t19 : tie.Need-array-read-t19
-array-read-t19 c = search needs
+array-read-t18 : tie.Need-array-read-t18
+array-read-t18 c = search needs
 
 slice-aggregate-put-all : tie.Need-slice-aggregate-put-all
 slice-aggregate-put-all c = search needs
@@ -31,13 +28,12 @@ same-length : tie.Need-same-length
 same-length c = search needs
 
 returns : tie.Need-returns
-unfolding headOf hexOf
+unfolding headText hexOf
 returns c =
     let put = c .before .before .put-all .ensures in
-    let lettered = c .before .before .before .before in
-    let digit = lettered .before .before .digit .ensures in
-    let hex = lettered .before .before .before .hex .ensures in
-    let is = rw (lettered .letter .ensures, digit, hex) at put in
+    let digit = c .before .before .before .before .before .digit .ensures in
+    let hex = c .before .before .before .before .before .before .hex .ensures in
+    let is = rw (digit, hex) at put in
     (is, omega (arith, is .place))
 
 pub put-head-spec : {M : Type 1} → statement M
@@ -46,9 +42,8 @@ put-head-spec =
     (tie.spec
     hex-requires
     digit-requires
-    letter-requires
-    array-read-t16
-    array-read-t19
+    array-read-t15
+    array-read-t18
     slice-aggregate-put-all
     put-all-requires
     same-length

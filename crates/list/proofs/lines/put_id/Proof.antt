@@ -1,6 +1,6 @@
 -- `list::lines::put_id` meets its contract, by its tests and its callees' contracts. Assumes nothing.
 use native.Mathlib.Omega.{arith}
-use Rattle.list.specs.Lines.{idOf}
+use Rattle.list.specs.Lines.{idText}
 use Rattle.list.proofs.Putting.{put-then}
 use Rattle.list.proofs.lines.put_id.Statement.{statement}
 use borrow.Author.Needs.{needs}
@@ -37,7 +37,7 @@ same-length : tie.Need-same-length
 same-length c = search needs
 
 returns : tie.Need-returns
-unfolding idOf
+unfolding idText
 returns c =
     let end = c .before .before in
     let mark = end .before .before .before .before .before in

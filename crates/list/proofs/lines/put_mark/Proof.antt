@@ -1,6 +1,6 @@
 -- `list::lines::put_mark` meets its contract, by its tests and its callees' contracts. Assumes nothing.
 use native.Mathlib.Omega.{arith}
-use Rattle.list.specs.Lines.{markOf}
+use Rattle.list.specs.Lines.{markText}
 use Rattle.list.proofs.lines.put_mark.Statement.{statement}
 use borrow.Author.Needs.{needs}
 use Rattle.list.proofs.lines.put_mark.Tie as tie
@@ -27,7 +27,7 @@ same-length : tie.Need-same-length
 same-length c = search needs
 
 returns : tie.Need-returns
-unfolding markOf
+unfolding markText
 returns c =
     let put = c .before .before .put-all .ensures in
     (rw (c .before .before .before .before .before .enum-told .given .1) put, omega (arith, put .place))
@@ -36,7 +36,7 @@ same-length-2 : tie.Need-same-length-2
 same-length-2 c = search needs
 
 returns-2 : tie.Need-returns-2
-unfolding markOf
+unfolding markText
 returns-2 c =
     let spelt = c .before .before .put-byte .ensures in
     let put = rw (c .before .before .before .mark-byte .ensures) at (spelt .0) in

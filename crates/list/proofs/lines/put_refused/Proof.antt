@@ -1,6 +1,6 @@
 -- `list::lines::put_refused` meets its contract, by its tests and its callees' contracts. Assumes nothing.
 use native.Mathlib.Omega.{arith}
-use Rattle.list.specs.Lines.{refusedOf}
+use Rattle.list.specs.Lines.{refusalText}
 use Rattle.list.proofs.Putting.{put-then}
 use Rattle.list.proofs.lines.put_refused.Statement.{statement}
 use borrow.Author.Needs.{needs}
@@ -25,7 +25,7 @@ same-length : tie.Need-same-length
 same-length c = search needs
 
 returns : tie.Need-returns
-unfolding refusedOf
+unfolding refusalText
 returns c =
     let end = c .before .before in
     let number = end .before .before .before .before .before in

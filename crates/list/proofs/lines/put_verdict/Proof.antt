@@ -1,6 +1,6 @@
 -- `list::lines::put_verdict` meets its contract, by its tests and its callees' contracts. Assumes nothing.
 use native.Mathlib.Omega.{arith}
-use Rattle.list.specs.Lines.{verdictOf}
+use Rattle.list.specs.Lines.{crcText}
 use Rattle.list.proofs.lines.put_verdict.Statement.{statement}
 use borrow.Author.Needs.{needs}
 use Rattle.list.proofs.lines.put_verdict.Tie as tie
@@ -15,7 +15,7 @@ same-length : tie.Need-same-length
 same-length c = search needs
 
 returns : tie.Need-returns
-unfolding verdictOf
+unfolding crcText
 returns c =
     let put = c .before .before .put-all .ensures in
     (rw (c .before .before .before .before .before .if1 .taken) put, omega (arith, put .place))
@@ -30,7 +30,7 @@ same-length-2 : tie.Need-same-length-2
 same-length-2 c = search needs
 
 returns-2 : tie.Need-returns-2
-unfolding verdictOf
+unfolding crcText
 returns-2 c =
     let put = c .before .before .put-all2 .ensures in
     (rw (c .before .before .before .before .before .if1 .left) put, omega (arith, put .place))

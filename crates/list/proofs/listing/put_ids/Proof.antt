@@ -1,6 +1,6 @@
 -- `list::listing::put_ids` meets its contract: the lines that are left come to what all lines come to. Assumes nothing.
 use mathlib.Core.Path.{sym, _∙_}
-use Rattle.list.specs.Listing.{lineOf}
+use Rattle.list.specs.Listing.{idLine}
 use Prim.Native.Nat.{_-_}
 use Rattle.list.proofs.Rounds.{Left, left-start, left-found, left-step, left-none, left-all}
 use Rattle.list.proofs.listing.put_ids.Statement.{statement}
@@ -95,7 +95,7 @@ loop-less : tie.Need-loop-less Inv-loop μ-loop
 loop-less c = search needs
 
 loop-again : tie.Need-loop-again Inv-loop μ-loop
-unfolding lineOf
+unfolding idLine
 loop-again c =
     let put = c .before .before in
     let marked = put .before .before in

@@ -30,8 +30,8 @@ returns c =
     let printed = refusal _ _ _ _ _ _ (read .0) (ne-eqb _ _ (test .if1 .taken)) (put .0) in
     (printed .0, (printed .1, (read .1, (omega (arith, put .1), rw (read .0) (taken-within _ [] _)))))
 
-length-requires : tie.Need-length-requires
-length-requires c κs = search needs
+shape-requires : tie.Need-shape-requires
+shape-requires c κs = search needs
 
 slice-reshare-prefix-put-listing : tie.Need-slice-reshare-prefix-put-listing
 slice-reshare-prefix-put-listing c = search needs
@@ -41,10 +41,10 @@ slice-aggregate-put-listing c = sym (length-take-le _ _ (search needs))
 
 put-listing-requires : tie.Need-put-listing-requires
 put-listing-requires c κs =
-    let cells = c .before .before .length in
+    let shape = c .before .before .shape in
     let read = c .before .before .before .before .before .before .before .read in
-    let size = length-take-le (cells .result) (read .last .1 .0) (search needs) in
-    ((omega (arith, size, cells .ensures .1), omega (arith, size, cells .ensures .1)), search needs)
+    let size = length-take-le (shape .result .length) (read .last .1 .0) (search needs) in
+    ((omega (arith, size, shape .ensures .1), omega (arith, size, shape .ensures .1)), search needs)
 
 same-length-3 : tie.Need-same-length-3
 same-length-3 c = search needs
@@ -60,7 +60,7 @@ returns-2 c =
     let put = c .before .before .put-listing .ensures in
     let printed =
     listing _ _ _ _ _ _ (read .0) (eq-eqb _ _ (test .if1 .left))
-    (rw (read .1, measured .length .ensures .0) at (put .0)) in
+    (rw (read .1, measured .shape .ensures .0) at (put .0)) in
     (printed .0, (printed .1, (read .1, (put .1, rw (read .0) (taken-within _ [] _)))))
 
 pub put-picture-spec : {M : Type 1} → statement M
@@ -72,7 +72,7 @@ put-picture-spec =
     same-length
     same-length-2
     returns
-    length-requires
+    shape-requires
     slice-reshare-prefix-put-listing
     slice-aggregate-put-listing
     put-listing-requires

@@ -1,6 +1,6 @@
 -- `picture::Kind::body` meets its contract, by its tests and its callees' contracts. Assumes nothing.
 use Rattle.picture.proofs.Kind.body.Statement.{statement}
-use Rattle.picture.specs.Kinds.{bodyOf}
+use Rattle.picture.specs.Layout.{bodyLength}
 use borrow.Author.Needs.{needs}
 use mathlib.Core.Path.{sym}
 use Rattle.picture.proofs.Kind.body.Tie as tie
@@ -18,7 +18,7 @@ add-result-3 : tie.Need-add-result-3
 add-result-3 c = search needs
 
 returns : tie.Need-returns
-unfolding bodyOf
+unfolding bodyLength
 returns c = (simp (sym (c .length .ensures .0)), search needs)
 
 pub body-spec : {M : Type 1} → statement M

@@ -1,15 +1,15 @@
 -- `script::requests::power_on` meets its contract, by its tests and its callees' contracts. Assumes nothing.
 use borrow.Author.Tests.{le-ltb, lt-ltb}
 use Rattle.script.proofs.requests.power_on.Statement.{statement}
-use Rattle.script.specs.Requests.{powering}
+use Rattle.script.specs.Requests.{powerOnRequest}
 use Rattle.script.proofs.requests.power_on.Tie as tie
 
 returns : tie.Need-returns
-unfolding powering
+unfolding powerOnRequest
 returns c = simp (lt-ltb _ _ (c .if1 .taken))
 
 returns-2 : tie.Need-returns-2
-unfolding powering
+unfolding powerOnRequest
 returns-2 c = simp (le-ltb _ _ (c .if1 .left))
 
 pub power-on-spec : {M : Type 1} → statement M

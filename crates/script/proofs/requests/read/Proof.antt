@@ -2,18 +2,18 @@
 use borrow.Author.Needs.{needs}
 use borrow.Author.Tests.{le-ltb, lt-ltb}
 use Rattle.script.proofs.requests.read.Statement.{statement}
-use Rattle.script.specs.Requests.{reading}
+use Rattle.script.specs.Requests.{readRequest}
 use Rattle.script.proofs.requests.read.Tie as tie
 
 returns : tie.Need-returns
-unfolding reading
+unfolding readRequest
 returns c = simp (lt-ltb _ _ (c .if1 .taken))
 
 cast-t3 : tie.Need-cast-t3
 cast-t3 c = search needs
 
 returns-2 : tie.Need-returns-2
-unfolding reading
+unfolding readRequest
 returns-2 c = simp (le-ltb _ _ (c .if1 .left))
 
 pub read-spec : {M : Type 1} → statement M

@@ -2,19 +2,19 @@
 use borrow.Author.Needs.{needs}
 use borrow.Author.Tests.{le-ltb, lt-ltb}
 use Rattle.script.proofs.requests.view.Statement.{statement}
-use Rattle.script.specs.Requests.{viewing}
+use Rattle.script.specs.Requests.{viewRequest}
 use Rattle.script.proofs.requests.view.Tie as tie
 
 returns : tie.Need-returns
-unfolding viewing
+unfolding viewRequest
 returns c = simp (lt-ltb _ _ (c .if1 .taken))
 
 returns-2 : tie.Need-returns-2
-unfolding viewing
+unfolding viewRequest
 returns-2 c = simp (lt-ltb _ _ (c .if2 .taken), le-ltb _ _ (c .before .if1 .left))
 
 returns-3 : tie.Need-returns-3
-unfolding viewing
+unfolding viewRequest
 returns-3 c = simp (lt-ltb _ _ (c .if3 .taken), le-ltb _ _ (c .before .if2 .left), le-ltb _ _ (c .before .before .if1 .left))
 
 cast-t5 : tie.Need-cast-t5
@@ -24,7 +24,7 @@ cast-t6 : tie.Need-cast-t6
 cast-t6 c = search needs
 
 returns-4 : tie.Need-returns-4
-unfolding viewing
+unfolding viewRequest
 returns-4 c = simp (le-ltb _ _ (c .if3 .left), le-ltb _ _ (c .before .if2 .left), le-ltb _ _ (c .before .before .if1 .left))
 
 pub view-spec : {M : Type 1} → statement M

@@ -1,12 +1,12 @@
 -- `wd::Machine::begin` meets its contract, by its tests and its callees' contracts. Assumes nothing.
-use mathlib.Core.Path.{sym}
-use borrow.Author.Needs.{needs}
-use Rattle.wd.specs.Loads.{begunOf}
 use Rattle.wd.proofs.Machine.begin.Statement.{statement}
+use Rattle.wd.specs.Loads.{commandBegun}
+use borrow.Author.Needs.{needs}
+use mathlib.Core.Path.{sym}
 use Rattle.wd.proofs.Machine.begin.Tie as tie
 
-kind-of-requires : tie.Need-kind-of-requires
-kind-of-requires c κs = search needs
+class-of-requires : tie.Need-class-of-requires
+class-of-requires c κs = search needs
 
 held-requires : tie.Need-held-requires
 held-requires c κs = search needs
@@ -39,27 +39,14 @@ begin-activity-requires : tie.Need-begin-activity-requires
 begin-activity-requires c κs = search needs
 
 returns : tie.Need-returns
-unfolding begunOf
-returns c =
-    simp (
-      c .begin-activity .ensures,
-      c .before .order-of .ensures,
-      c .before .before .begin-conditions .ensures,
-      c .before .before .before .begin-head .ensures,
-      c .before .before .before .before .begin-flags .ensures,
-      sym (c .before .before .before .before .before .busy .ensures),
-      c .before .before .before .before .before .before .begin-wires .ensures,
-      sym (c .before .before .before .before .before .before .before .asks .ensures),
-      c .before .before .before .before .before .before .before .before .begin-regs .ensures,
-      sym (c .before .before .before .before .before .before .before .before .before .before .held .ensures),
-      c .before .before .before .before .before .before .before .before .before .before .before .kind-of .ensures,
-    )
+unfolding commandBegun
+returns c = simp (c .begin-activity .ensures, c .before .order-of .ensures, c .before .before .begin-conditions .ensures, c .before .before .before .begin-head .ensures, c .before .before .before .before .begin-flags .ensures, sym (c .before .before .before .before .before .busy .ensures), c .before .before .before .before .before .before .begin-wires .ensures, sym (c .before .before .before .before .before .before .before .asks .ensures), c .before .before .before .before .before .before .before .before .begin-regs .ensures, sym (c .before .before .before .before .before .before .before .before .before .before .held .ensures), c .before .before .before .before .before .before .before .before .before .before .before .class-of .ensures)
 
 pub begin-spec : {M : Type 1} → statement M
 begin-spec =
     tie.close
     (tie.spec
-    kind-of-requires
+    class-of-requires
     held-requires
     begin-regs-requires
     asks-requires

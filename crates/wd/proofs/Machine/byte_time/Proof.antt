@@ -2,7 +2,7 @@
 use mathlib.Core.Path.{sym}
 use borrow.Author.Needs.{needs}
 use borrow.Author.Tests.{ne-eqb}
-use Rattle.wd.specs.Rows.{passedOf, rowOf}
+use Rattle.wd.specs.Rows.{byteTime, byteTimeRow}
 use Rattle.wd.proofs.Machine.byte_time.Statement.{statement}
 use Rattle.wd.proofs.Machine.byte_time.Tie as tie
 
@@ -13,7 +13,7 @@ refused-requires : tie.Need-refused-requires
 refused-requires c κs = search needs
 
 returns : tie.Need-returns
-unfolding passedOf rowOf
+unfolding byteTime byteTimeRow
 returns c = (simp (c .refused .ensures, ne-eqb _ _ (c .before .if1 .taken), sym (c .before .before .row-refusal .ensures)), simp (c .refused .ensures, ne-eqb _ _ (c .before .if1 .taken), sym (c .before .before .row-refusal .ensures)))
 
 pass-requires : tie.Need-pass-requires

@@ -1,7 +1,7 @@
 -- `wd::Machine::command` meets its contract, by its tests and its callees' contracts. Assumes nothing.
-use borrow.Author.Needs.{needs}
 use Rattle.wd.proofs.Machine.command.Statement.{statement}
-use Rattle.wd.specs.Loads.{commandedOf}
+use Rattle.wd.specs.Loads.{commandAnswer}
+use borrow.Author.Needs.{needs}
 use Rattle.wd.proofs.Machine.command.Tie as tie
 
 enum-known-decoded : tie.Need-enum-known-decoded
@@ -14,11 +14,11 @@ enum-told : tie.Need-enum-told
 enum-told c = search needs
 
 returns : tie.Need-returns
-unfolding commandedOf
+unfolding commandAnswer
 returns c = simp (c .begin .ensures, c .before .before .decoded .given .1)
 
 returns-2 : tie.Need-returns-2
-unfolding commandedOf
+unfolding commandAnswer
 returns-2 c = simp (c .enum-told .given .1)
 
 pub command-spec : {M : Type 1} → statement M

@@ -1,7 +1,7 @@
--- `wd::Machine::fresh` meets its contract, by its callees' contracts. Assumes nothing.
-use borrow.Author.Needs.{needs}
+-- `wd::Machine::fresh` meets its contract, by its tests and its callees' contracts. Assumes nothing.
 use Rattle.wd.proofs.Machine.fresh.Statement.{statement}
-use Rattle.wd.specs.Machines.{freshOf}
+use Rattle.wd.specs.Machines.{freshMachine}
+use borrow.Author.Needs.{needs}
 use Rattle.wd.proofs.Machine.fresh.Tie as tie
 
 clear-flags-requires : tie.Need-clear-flags-requires
@@ -11,7 +11,7 @@ no-conditions-requires : tie.Need-no-conditions-requires
 no-conditions-requires c κs = search needs
 
 returns : tie.Need-returns
-unfolding freshOf
+unfolding freshMachine
 returns c = simp (c .no-conditions .ensures, c .before .clear-flags .ensures)
 
 pub fresh-spec : {M : Type 1} → statement M

@@ -2,7 +2,7 @@
 use mathlib.Core.Path.{sym}
 use borrow.Author.Tests.{eq-eqb, ne-eqb}
 use borrow.Author.Needs.{needs}
-use Rattle.wd.specs.Loads.{loadedOf}
+use Rattle.wd.specs.Loads.{loadRegister}
 use Rattle.wd.proofs.Machine.load_register.Statement.{statement}
 use Rattle.wd.proofs.Machine.load_register.Tie as tie
 
@@ -16,7 +16,7 @@ load-refusal-requires : tie.Need-load-refusal-requires
 load-refusal-requires c κs = search needs
 
 returns : tie.Need-returns
-unfolding loadedOf
+unfolding loadRegister
 returns c =
     simp (
       ne-eqb _ _ (c .if1 .taken),
@@ -32,7 +32,7 @@ command-requires : tie.Need-command-requires
 command-requires c κs = search needs
 
 returns-2 : tie.Need-returns-2
-unfolding loadedOf
+unfolding loadRegister
 returns-2 c =
     simp (
       c .command .ensures,
@@ -54,7 +54,7 @@ with-bus-requires : tie.Need-with-bus-requires
 with-bus-requires c κs = search needs
 
 returns-3 : tie.Need-returns-3
-unfolding loadedOf
+unfolding loadRegister
 returns-3 c =
     simp (
       c .with-bus .ensures,

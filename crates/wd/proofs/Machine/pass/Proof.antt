@@ -3,7 +3,7 @@ use lib.ListN.{length}
 use denote.Ref.{now}
 use borrow.Author.Tests.{lt-ltb, le-ltb, eq-eqb}
 use borrow.Author.Needs.{needs}
-use Rattle.wd.specs.Rows.{passedOf, rowOf}
+use Rattle.wd.specs.Rows.{byteTime, byteTimeRow}
 use Rattle.wd.proofs.Valid.{row-inside}
 use Rattle.wd.proofs.Machine.pass.Statement.{statement}
 use Rattle.wd.proofs.Machine.pass.Tie as tie
@@ -21,7 +21,7 @@ refused-requires : tie.Need-refused-requires
 refused-requires c κs = search needs
 
 returns : tie.Need-returns
-unfolding passedOf rowOf
+unfolding byteTime byteTimeRow
 returns c = (
   simp (c .refused .ensures, lt-ltb _ _ (c .before .if1 .taken), eq-eqb _ _ (c .before .before .before .before .before .before .pre)),
   simp (lt-ltb _ _ (c .before .if1 .taken), eq-eqb _ _ (c .before .before .before .before .before .before .pre)),
@@ -43,7 +43,7 @@ same-length : tie.Need-same-length
 same-length c = search needs
 
 returns-2 : tie.Need-returns-2
-unfolding passedOf rowOf
+unfolding byteTime byteTimeRow
 returns-2 c = (
   simp (c .done .ensures, c .before .turn .ensures, le-ltb _ _ (c .before .before .if1 .left), eq-eqb _ _ (c .before .before .before .before .before .before .before .pre)),
   simp (c .before .turn .ensures, le-ltb _ _ (c .before .before .if1 .left), eq-eqb _ _ (c .before .before .before .before .before .before .before .pre)),

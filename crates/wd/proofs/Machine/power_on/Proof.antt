@@ -2,7 +2,7 @@
 use mathlib.Core.Path.{sym}
 use borrow.Author.Needs.{needs}
 use Rattle.wd.proofs.Machine.power_on.Statement.{statement}
-use Rattle.wd.specs.Machines.{poweredOf}
+use Rattle.wd.specs.Machines.{powerOn}
 use Rattle.wd.proofs.Machine.power_on.Tie as tie
 
 length-within-requires : tie.Need-length-within-requires
@@ -15,11 +15,11 @@ fresh-requires-2 : tie.Need-fresh-requires-2
 fresh-requires-2 c κs = search needs
 
 returns : tie.Need-returns
-unfolding poweredOf
+unfolding powerOn
 returns c = simp (c .fresh .ensures, c .before .if1 .taken, sym (c .before .before .length-within .ensures))
 
 returns-2 : tie.Need-returns-2
-unfolding poweredOf
+unfolding powerOn
 returns-2 c = simp (c .fresh2 .ensures, c .before .if1 .left, sym (c .before .before .length-within .ensures))
 
 pub power-on-spec : {M : Type 1} → statement M

@@ -3,7 +3,7 @@ use mathlib.Core.Path.{sym}
 use borrow.Author.Needs.{needs}
 use borrow.Author.Tests.{eq-eqb, ne-eqb}
 use Rattle.wd.proofs.Machine.read_register.Statement.{statement}
-use Rattle.wd.specs.Reads.{readOf}
+use Rattle.wd.specs.Reads.{readRegister}
 use Rattle.wd.proofs.Machine.read_register.Tie as tie
 
 valid-requires : tie.Need-valid-requires
@@ -13,7 +13,7 @@ read-refusal-requires : tie.Need-read-refusal-requires
 read-refusal-requires c κs = search needs
 
 returns : tie.Need-returns
-unfolding readOf
+unfolding readRegister
 returns c =
     simp (
       ne-eqb _ _ (c .if1 .taken),
@@ -34,7 +34,7 @@ with-bus-requires : tie.Need-with-bus-requires
 with-bus-requires c κs = search needs
 
 returns-2 : tie.Need-returns-2
-unfolding readOf
+unfolding readRegister
 returns-2 c =
     simp (
       sym (c .with-bus .ensures),

@@ -1,14 +1,14 @@
--- `wd::Machine::run` meets its contract: a byte that goes over is a run by itself. Assumes nothing.
+-- `wd::Machine::run` meets its contract: a byte transferred is a run by itself. Assumes nothing.
 use mathlib.Core.Path.{sym, ap, _∙_}
 use Prim.Native.Nat.{ℕ}
 use lib.ListN.{length}
 use denote.Ref.{now}
 use borrow.Author.Needs.{needs}
 use Rattle.wd.specs.Rows.{emptyRun, Run}
-use Rattle.wd.specs.Handing.{aloneOf}
+use Rattle.wd.specs.Transfers.{oneByteTime}
 use Rattle.wd.proofs.Valid.{row-inside}
 use Rattle.wd.proofs.Runs.{open-run, none-run, some-run}
-use Rattle.wd.proofs.Handed.{over-run}
+use Rattle.wd.proofs.Transferred.{over-run}
 use Rattle.wd.proofs.Machine.run.Statement.{statement}
 use Rattle.wd.proofs.Machine.run.Tie as tie
 
@@ -30,19 +30,19 @@ returns c =
 cast-position : tie.Need-cast-position
 cast-position c = search needs
 
-mul-over : tie.Need-mul-over
-mul-over c = search needs
+mul-transferred : tie.Need-mul-transferred
+mul-transferred c = search needs
 
-slice-read-over : tie.Need-slice-read-over
-slice-read-over c =
+slice-read-transferred : tie.Need-slice-read-transferred
+slice-read-transferred c =
     let a = c .before .before .before .before .before .before .args in
     row-inside (a .self) (length (now (a .row))) (sym (c .before .before .before .before .row-refusal .ensures) ∙ some-run (c .before .before .before .before .row-refusal .result) (a .limit) (c .before .before .before .if1 .left) .0)
 
-over-requires : tie.Need-over-requires
-over-requires c κs = search needs
+transferred-requires : tie.Need-transferred-requires
+transferred-requires c κs = search needs
 
-enum-known-handing : tie.Need-enum-known-handing
-enum-known-handing c = search needs
+enum-known-moved : tie.Need-enum-known-moved
+enum-known-moved c = search needs
 
 mul-row : tie.Need-mul-row
 mul-row c = search needs
@@ -52,11 +52,11 @@ slice-write-row c =
     let a = c .before .before .before .before .before .before .before .before .before .before .args in
     row-inside (a .self) (length (now (a .row))) (sym (c .before .before .before .before .before .before .before .before .row-refusal .ensures) ∙ some-run (c .before .before .before .before .before .before .before .before .row-refusal .result) (a .limit) (c .before .before .before .before .before .before .before .if1 .left) .0)
 
-handed-requires : tie.Need-handed-requires
-handed-requires c κs = search needs
+after-transfer-requires : tie.Need-after-transfer-requires
+after-transfer-requires c κs = search needs
 
-alone-requires : tie.Need-alone-requires
-alone-requires c κs = search needs
+one-byte-time-requires : tie.Need-one-byte-time-requires
+one-byte-time-requires c κs = search needs
 
 enum-told : tie.Need-enum-told
 enum-told c = search needs
@@ -73,8 +73,8 @@ returns-2 c =
     let a = c .before .before .before .before .before .before .before .before .before .before .before .before .args in
     let some = some-run (c .before .before .before .before .before .before .before .before .before .before .row-refusal .result) (a .limit) (c .before .before .before .before .before .before .before .before .before .if1 .left) in
     let opens = sym (c .before .before .before .before .before .before .before .before .before .before .row-refusal .ensures) ∙ some .0 in
-    let v = over-run (a .self) (a .lines) (now (a .row)) _ _ _ opens (sym (c .before .before .before .before .before .over .ensures) ∙ c .before .before .before .handing .given .1) (a .limit) (some .1) in (
-      c .alone .ensures ∙ ap aloneOf (c .before .handed .ensures) ∙ sym (ap (λ (r : Run). r .ran) v),
+    let v = over-run (a .self) (a .lines) (now (a .row)) _ _ _ opens (sym (c .before .before .before .before .before .transferred .ensures) ∙ c .before .before .before .moved .given .1) (a .limit) (some .1) in (
+      c .one-byte-time .ensures ∙ ap oneByteTime (c .before .after-transfer .ensures) ∙ sym (ap (λ (r : Run). r .ran) v),
       sym (ap (λ (r : Run). r .row) v),
     )
 
@@ -97,14 +97,14 @@ run-spec =
     empty-run-requires
     returns
     cast-position
-    mul-over
-    slice-read-over
-    over-requires
-    enum-known-handing
+    mul-transferred
+    slice-read-transferred
+    transferred-requires
+    enum-known-moved
     mul-row
     slice-write-row
-    handed-requires
-    alone-requires
+    after-transfer-requires
+    one-byte-time-requires
     enum-told
     run-open-requires
     same-length

@@ -1,4 +1,4 @@
--- `wd::Machine::run_open` meets its contract: a run goes on behind the stretch that it begins with, or is over with it. Assumes
+-- `wd::Machine::run_open` meets its contract: a run goes on after the stretch that it begins with, or is over with it. Assumes
 -- nothing.
 use mathlib.Core.Path.{sym, ap, ap₂, subst, _∙_}
 use mathlib.Core.List.{List}

@@ -1,7 +1,7 @@
 -- `wd::Machine::stretched` meets its contract, by its tests and its callees' contracts. Assumes nothing.
 use borrow.Author.Needs.{needs}
 use Rattle.wd.proofs.Machine.stretched.Statement.{statement}
-use Rattle.wd.specs.Stretches.{stretchedOf}
+use Rattle.wd.specs.Stretches.{afterStretch}
 use Rattle.wd.proofs.Machine.stretched.Tie as tie
 
 add-t12 : tie.Need-add-t12
@@ -11,7 +11,7 @@ later-requires : tie.Need-later-requires
 later-requires c κs = search needs
 
 returns : tie.Need-returns
-unfolding stretchedOf
+unfolding afterStretch
 returns c = simp (c .later .ensures)
 
 pub stretched-spec : {M : Type 1} → statement M

@@ -1,7 +1,7 @@
 -- `wd::Machine::turn` meets its contract, by its tests and its callees' contracts. Assumes nothing.
-use borrow.Author.Needs.{needs}
 use Rattle.wd.proofs.Machine.turn.Statement.{statement}
-use Rattle.wd.specs.Turns.{turnedOf}
+use Rattle.wd.specs.Turns.{cellTurn}
+use borrow.Author.Needs.{needs}
 use Rattle.wd.proofs.Machine.turn.Tie as tie
 
 look-requires : tie.Need-look-requires
@@ -13,13 +13,9 @@ turn-requires c κs = search needs
 applied-requires : tie.Need-applied-requires
 applied-requires c κs = search needs
 
-pulse-of-requires : tie.Need-pulse-of-requires
-pulse-of-requires c κs = search needs
-
 returns : tie.Need-returns
-unfolding turnedOf
-returns c = simp (c .pulse-of .ensures, c .before .applied .ensures, c .before .before .turn .ensures, c .before .before .before .look .ensures)
+unfolding cellTurn
+returns c = simp (c .applied .ensures, c .before .turn .ensures, c .before .before .look .ensures)
 
 pub turn-spec : {M : Type 1} → statement M
-turn-spec =
-    tie.close (tie.spec look-requires turn-requires applied-requires pulse-of-requires returns)
+turn-spec = tie.close (tie.spec look-requires turn-requires applied-requires returns)

@@ -3,14 +3,14 @@ use mathlib.Core.Path.{sym}
 use borrow.Author.Needs.{needs}
 use borrow.Author.Tests.{le-leb, lt-leb}
 use Rattle.script.proofs.lines.Line.with_number.Statement.{statement}
-use Rattle.script.specs.Lines.{numbered}
+use Rattle.script.specs.Lines.{numberedLine}
 use Rattle.script.proofs.lines.Line.with_number.Tie as tie
 
 spoil-requires : tie.Need-spoil-requires
 spoil-requires c κs = search needs
 
 returns : tie.Need-returns
-unfolding numbered
+unfolding numberedLine
 returns c = simp (c .spoil .ensures, le-leb _ _ (c .before .if1 .taken))
 
 is-number-requires : tie.Need-is-number-requires
@@ -26,14 +26,14 @@ add-line : tie.Need-add-line
 add-line c = search needs
 
 returns-2 : tie.Need-returns-2
-unfolding numbered
+unfolding numberedLine
 returns-2 c = simp (c .if2 .taken, sym (c .before .is-number .ensures), lt-leb _ _ (c .before .before .if1 .left))
 
 spoil-requires-2 : tie.Need-spoil-requires-2
 spoil-requires-2 c κs = search needs
 
 returns-3 : tie.Need-returns-3
-unfolding numbered
+unfolding numberedLine
 returns-3 c =
     simp (
       c .spoil2 .ensures,

@@ -3,25 +3,25 @@ use mathlib.Core.Path.{sym}
 use borrow.Author.Needs.{needs}
 use borrow.Author.Tests.{eq-eqb, ne-eqb}
 use Rattle.script.proofs.lines.Reader.fed.Statement.{statement}
-use Rattle.script.specs.Lines.{fedOf}
+use Rattle.script.specs.Lines.{fedReader}
 use Rattle.script.proofs.lines.Reader.fed.Tie as tie
 
 returns : tie.Need-returns
-unfolding fedOf
+unfolding fedReader
 returns c = simp (c .if1 .taken)
 
 stray-cr-requires : tie.Need-stray-cr-requires
 stray-cr-requires c κs = search needs
 
 returns-2 : tie.Need-returns-2
-unfolding fedOf
+unfolding fedReader
 returns-2 c = simp (c .stray-cr .ensures, c .before .if2 .taken, c .before .before .if1 .left)
 
 end-word-requires : tie.Need-end-word-requires
 end-word-requires c κs = search needs
 
 returns-3 : tie.Need-returns-3
-unfolding fedOf
+unfolding fedReader
 returns-3 c =
     simp (
       c .end-word .ensures,
@@ -34,7 +34,7 @@ end-word-requires-2 : tie.Need-end-word-requires-2
 end-word-requires-2 c κs = search needs
 
 returns-4 : tie.Need-returns-4
-unfolding fedOf
+unfolding fedReader
 returns-4 c =
     simp (
       c .end-word2 .ensures,
@@ -48,7 +48,7 @@ hold-cr-requires : tie.Need-hold-cr-requires
 hold-cr-requires c κs = search needs
 
 returns-5 : tie.Need-returns-5
-unfolding fedOf
+unfolding fedReader
 returns-5 c =
     simp (
       c .hold-cr .ensures,
@@ -63,7 +63,7 @@ grow-word-requires : tie.Need-grow-word-requires
 grow-word-requires c κs = search needs
 
 returns-6 : tie.Need-returns-6
-unfolding fedOf
+unfolding fedReader
 returns-6 c =
     simp (
       sym (c .grow-word .ensures),

@@ -1,2 +1,0 @@
--- The cases that are proved.
-pub mod Cases

@@ -1,0 +1,25 @@
+-- The order that an accepted command leaves for the byte times. Assumes nothing.
+use Prim.Native.Nat.{ℕ}
+use mathlib.Core.Bool.{Bool, true, false}
+use Rattle.command.specs.declared.Command.{Command}
+use Rattle.command.specs.declared.Command.the-variants.{Restore, Seek, Step, StepIn, StepOut, ReadSector, WriteSector, ReadAddress, ReadTrack, WriteTrack, ForceInterrupt}
+use Rattle.command.specs.declared.Order.{Order}
+
+-- The direction of the one step: Step-in goes in, Step-out goes out, Step as the last step did. The other commands make no
+-- such step; a Seek's direction is found as it steps.
+unfoldable pub inwardOf : Command → Bool → Bool
+inwardOf Restore last = last
+inwardOf Seek last = last
+inwardOf Step last = last
+inwardOf StepIn last = true
+inwardOf StepOut last = false
+inwardOf ReadSector last = last
+inwardOf WriteSector last = last
+inwardOf ReadAddress last = last
+inwardOf ReadTrack last = last
+inwardOf WriteTrack last = last
+inwardOf ForceInterrupt last = last
+
+-- The command under way is the command, its byte and the direction of its step.
+unfoldable pub orderOf : Command → ℕ → Bool → Order
+orderOf command byte last = record { command = command; byte = byte; inward = inwardOf command last }

@@ -1,0 +1,149 @@
+// Command bytes of the WD1793: the command that a byte is, and the order that it leaves for the byte times.
+ghost use mathlib.Core.Path.{_≡_};
+ghost use Rattle.command.specs.Commands.{decodedOf, classOf, jobOf, isRestore};
+ghost use Rattle.command.specs.Orders.{inwardOf, orderOf};
+
+pub mod bits;
+pub mod sizes;
+pub mod times;
+
+// The commands, by the data sheet's names.
+pub enum Command {
+    Restore,
+    Seek,
+    Step,
+    StepIn,
+    StepOut,
+    ReadSector,
+    WriteSector,
+    ReadAddress,
+    ReadTrack,
+    WriteTrack,
+    ForceInterrupt,
+}
+
+// What a byte loaded into the command register is.
+pub enum Decoded {
+    Taken(Command),
+    NoCommand,
+}
+
+// How the controller takes a command up: it steps until a track is reached, steps once, loads the head and works there,
+// or ends what is under way.
+pub enum Class {
+    Seeks,
+    Steps,
+    Works,
+    Forces,
+}
+
+// What begins once the head has settled.
+pub enum Job {
+    Nothing,
+    Verify,
+    ReadSector,
+    WriteSector,
+    ReadAddress,
+    ReadTrack,
+    WriteTrack,
+}
+
+// The side that an ID must have to match.
+pub enum SideAsked {
+    Any,
+    Only(u8),
+}
+
+// The command under way, its byte, whose bits `bits` reads, and the direction of its one step.
+pub struct Order {
+    pub command: Command,
+    pub byte: u8,
+    pub inward: bool,
+}
+
+// The command that a byte is. Read Sector has no data mark to choose, so its bit 0 must be off.
+pub fn decode(byte: u8) -> Decoded
+    ensures { λ r. ⌜ r ≡ decodedOf byte ⌝ }
+{
+    match byte {
+        0x00..=0x0F => Decoded::Taken(Command::Restore),
+        0x10..=0x1F => Decoded::Taken(Command::Seek),
+        0x20..=0x3F => Decoded::Taken(Command::Step),
+        0x40..=0x5F => Decoded::Taken(Command::StepIn),
+        0x60..=0x7F => Decoded::Taken(Command::StepOut),
+        0x80..=0x9F => {
+            if byte % 2 == 0 {
+                Decoded::Taken(Command::ReadSector)
+            } else {
+                Decoded::NoCommand
+            }
+        }
+        0xA0..=0xBF => Decoded::Taken(Command::WriteSector),
+        0xC0 | 0xC4 => Decoded::Taken(Command::ReadAddress),
+        0xE0 | 0xE4 => Decoded::Taken(Command::ReadTrack),
+        0xF0 | 0xF4 => Decoded::Taken(Command::WriteTrack),
+        0xD0..=0xDF => Decoded::Taken(Command::ForceInterrupt),
+        _ => Decoded::NoCommand,
+    }
+}
+
+// How a command is taken up.
+pub fn class_of(command: Command) -> Class
+    ensures { λ r. ⌜ r ≡ classOf command ⌝ }
+{
+    match command {
+        Command::Restore | Command::Seek => Class::Seeks,
+        Command::Step | Command::StepIn | Command::StepOut => Class::Steps,
+        Command::ReadSector | Command::WriteSector => Class::Works,
+        Command::ReadAddress | Command::ReadTrack | Command::WriteTrack => Class::Works,
+        Command::ForceInterrupt => Class::Forces,
+    }
+}
+
+// What a command begins once the head has settled.
+pub fn job_of(command: Command) -> Job
+    ensures { λ r. ⌜ r ≡ jobOf command ⌝ }
+{
+    match command {
+        Command::Restore | Command::Seek => Job::Verify,
+        Command::Step | Command::StepIn | Command::StepOut => Job::Verify,
+        Command::ReadSector => Job::ReadSector,
+        Command::WriteSector => Job::WriteSector,
+        Command::ReadAddress => Job::ReadAddress,
+        Command::ReadTrack => Job::ReadTrack,
+        Command::WriteTrack => Job::WriteTrack,
+        Command::ForceInterrupt => Job::Nothing,
+    }
+}
+
+// Restore is a Seek with a rule of its own where it begins and where it stops.
+pub fn is_restore(command: Command) -> bool
+    ensures { λ r. ⌜ r ≡ isRestore command ⌝ }
+{
+    match command {
+        Command::Restore => true,
+        _ => false,
+    }
+}
+
+// The direction of a command's step, from that of the last one.
+fn inward(command: Command, last: bool) -> bool
+    ensures { λ r. ⌜ r ≡ inwardOf command last ⌝ }
+{
+    match command {
+        Command::StepIn => true,
+        Command::StepOut => false,
+        _ => last,
+    }
+}
+
+// The order that a command and its byte give, from the direction of the last step.
+pub fn order_of(command: Command, byte: u8, last: bool) -> Order
+    ensures { λ r. ⌜ r ≡ orderOf command byte last ⌝ }
+{
+    Order {
+        command,
+        byte,
+        inward: inward(command, last),
+    }
+}

@@ -1,0 +1,3 @@
+-- Definitions that several crates share.
+pub mod Bits
+pub mod Laid

@@ -1,2 +1,0 @@
--- What the proofs of `deeds` share.
-pub mod Arms

@@ -1,2 +1,0 @@
--- The definitions that the contracts of `deeds` cite.
-pub mod Deeds

@@ -1,0 +1,2 @@
+-- Laws of deeds for the crates above.
+pub mod Apart

@@ -1,0 +1,2 @@
+-- The definitions that the contracts of `effects` cite.
+pub mod Effects

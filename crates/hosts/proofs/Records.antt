@@ -1,0 +1,166 @@
+-- A Read Sector after a data mark: the data field, the two CRC cells, and the end of the record or the search after it. It is
+-- said of any record, from any byte time on, and whatever its CRC is. Assumes nothing.
+use mathlib.Core.Path.{_≡_, refl, sym, ap, ap₂, _∙_, subst}
+use mathlib.Core.Bool.{Bool, true, false, not, or-false}
+use mathlib.Core.List.{List}
+use Prim.Native.Nat.{ℕ, suc, _+_, _-_, _≤_, _<_}
+use native.Mathlib.Decide.{decLt}
+use native.Mathlib.Omega.{arith}
+use lib.Dec.{eqb}
+use lib.Seq.{set-getD}
+use Rattle.crc.specs.Crc.{crcByte}
+use Rattle.scan.specs.Marks.{byteOf}
+use Rattle.command.specs.Bits.{isMultiple}
+use Rattle.activity.specs.Acts.{pass}
+use Rattle.activity.specs.Limits.{busyIn}
+use Rattle.activity.specs.declared.Activity.{Activity}
+use Rattle.activity.specs.declared.Activity.the-variants.{Idle, Data}
+use Rattle.activity.specs.declared.Deed.the-variants.{Nothing, Deliver, Record}
+use Rattle.search.specs.Search.{afresh, afterRecord}
+use Rattle.effects.proofs.Apart.{regsAfter}
+use Rattle.effects.specs.Effects.{raisedSr, effectOf, delivered, addressNamed, recordOver, recordRead, cellTaken, stepped, halted}
+use Rattle.reachable.specs.ByteTimes.{turnsOn}
+use Rattle.hosts.specs.Bytes.{deedAt}
+use Rattle.hosts.proofs.DataFields.{sumAfter}
+use Rattle.hosts.proofs.Keeps.{nothing-keeps, deliver-keeps, record-keeps}
+use Rattle.hosts.proofs.Views.{View, viewWith, viewOf, loses, Outside, cellUnder, seenIn}
+use Rattle.hosts.proofs.ReadActs.{Does, data-on, crc-on, crc-end}
+use Rattle.hosts.proofs.Courses.{Course, deskAt, besideAt, Lasts}
+use Rattle.hosts.proofs.Phases.{stands, PassesTo, Stands, stands-lasts, deed-is, acts-within, acts-on, passes-on, lasts-from}
+use Rattle.hosts.proofs.Passing.{OnTrack, cell-at}
+use Rattle.hosts.proofs.Windows.{cellsAfter}
+
+-- A command that has come to the data field of a record m byte times after byte time t.
+pub record Marked {Rows : List ℕ → Type 0} (c : Course Rows) (t : ℕ) (v : View) (m size crc : ℕ) (deleted : Bool) : Type 0
+  where
+    pub track : OnTrack v
+    pub rows : Rows (v .row)
+    pub begins : Stands c t v m (v .missing) (Data (size + 2) crc deleted)
+
+-- the byte of its cell i, and the register after the first i of them
+abbrev pub byteAfter : View → ℕ → ℕ → ℕ
+byteAfter v m i = byteOf (cellsAfter v m i)
+
+abbrev pub registerAfter : View → ℕ → ℕ → ℕ → ℕ
+registerAfter v m crc = sumAfter crc (byteAfter v m)
+
+-- n byte times on, with SR raised and a search begun
+abbrev pub raisedIn : View → ℕ → View
+raisedIn v n = viewWith v (v .row) (turnsOn n (v .ring)) (v .tr) (raisedSr (v .sr) true) (v .missing) (afresh 0)
+
+module _ {Rows : List ℕ → Type 0} {c : Course Rows} {t : ℕ} {v : View} {m size crc : ℕ} {deleted : Bool}
+    (r : Marked c t v m size crc deleted) where
+  -- i cells of the field have passed; the two CRC cells are of it
+  abbrev dataAt : ℕ → Activity
+  dataAt i = Data (size + 2 - i) (registerAfter v m crc i) deleted
+
+  module _ (i : ℕ) (o : Outside) where
+    abbrev reading : View
+    reading = stands v (m + i) (v .missing) (dataAt i)
+
+    same-byte : byteOf (cellUnder reading) ≡ byteAfter v m i
+    same-byte = ap byteOf (cell-at v (r .track) (m + i))
+
+    -- "Each data byte, flags ignored, goes to DR"
+    hands-act : i < size → Does reading o (dataAt (suc i)) (Deliver (byteAfter v m i))
+    unfolding sumAfter
+    hands-act l =
+        data-on reading o (size + 2 - i) _ deleted refl (size + 2 - suc i) (omega arith) (omega arith)
+        ∙ ap (λ (b : ℕ).
+        pass (seenIn reading o) (Data (size + 2 - suc i) (crcByte (registerAfter v m crc i) b) deleted) (Deliver b))
+        same-byte
+
+    -- the first CRC cell
+    first-act : i ≡ size → Does reading o (dataAt (suc i)) Nothing
+    unfolding sumAfter
+    first-act e =
+        crc-on reading o (size + 2 - i) _ deleted refl (omega arith)
+        ∙ ap₂ (λ (left b : ℕ). pass (seenIn reading o) (Data left (crcByte (registerAfter v m crc i) b) deleted) Nothing)
+        (omega arith) same-byte
+
+    -- and the second
+    last-act :
+        i ≡ suc size
+        → Does reading o (afterRecord (isMultiple (v .order .byte)))
+        (Record deleted (not (eqb (registerAfter v m crc (suc i)) 0)) (isMultiple (v .order .byte)))
+    unfolding sumAfter
+    last-act e =
+        crc-end reading o (size + 2 - i) _ deleted refl (omega arith)
+        ∙ ap (λ (b : ℕ).
+        pass (seenIn reading o) (afterRecord (isMultiple (v .order .byte)))
+        (Record deleted (not (eqb (crcByte (registerAfter v m crc i) b) 0)) (isMultiple (v .order .byte))))
+        same-byte
+
+    reads-act : i < suc size → PassesTo reading o (dataAt (suc i))
+    reads-act l = by (decLt i size)
+      where
+        by : Dec (i < size) → PassesTo reading o (dataAt (suc i))
+        by (yes h) = record { deed = Deliver (byteAfter v m i); acts = hands-act h; keeps = deliver-keeps _ }
+        by (no h) = record { deed = Nothing; acts = first-act (omega arith); keeps = nothing-keeps }
+
+  reads : (i : ℕ) → i ≤ suc size → Stands c t v (m + i) (v .missing) (dataAt i)
+  unfolding busyIn sumAfter
+  reads i l =
+      let none : size + 2 ≡ size + 2 - 0 = omega arith in
+      lasts-from c t v (r .rows) m dataAt i (λ k h. refl) (λ k h o same. reads-act k o (omega arith))
+      (subst (λ (left : ℕ). Stands c t v m (v .missing) (Data left crc deleted)) none (r .begins))
+
+  pub data-lasts : (i : ℕ) → i < size + 2 → Lasts c (v .row) (t + (m + i))
+  unfolding busyIn
+  data-lasts i l = stands-lasts c t v (reads i (omega arith)) refl
+
+  -- where the head is then
+  pub data-ring : (i : ℕ) → i ≤ size → deskAt c (t + (m + i)) .machine .ring ≡ turnsOn (m + i) (v .ring)
+  data-ring i l = ap (λ (w : View). w .ring) (reads i (omega arith) .view)
+
+  -- ---- what each byte time does
+
+  pub hands-deed : (i : ℕ) → i < size → deedAt (c .host) (c .desk) (t + (m + i)) ≡ Deliver (byteAfter v m i)
+  unfolding busyIn
+  hands-deed i l = deed-is c t v (reads i (omega arith)) refl (r .rows) (hands-act i _ l)
+
+  pub first-deed : deedAt (c .host) (c .desk) (t + (m + size)) ≡ Nothing
+  unfolding busyIn
+  first-deed = deed-is c t v (reads size (omega arith)) refl (r .rows) (first-act size _ refl)
+
+  pub last-deed :
+      deedAt (c .host) (c .desk) (t + (m + suc size))
+      ≡ Record deleted (not (eqb (registerAfter v m crc (suc (suc size))) 0)) (isMultiple (v .order .byte))
+  unfolding busyIn
+  last-deed = deed-is c t v (reads (suc size) (omega arith)) refl (r .rows) (last-act (suc size) _ refl)
+
+  -- ---- its end
+
+  -- "At the second CRC cell: .. Busy off, INTRQ."
+  pub record-ends : isMultiple (v .order .byte) ≡ false → Stands c t v (m + (size + 2)) (v .missing) Idle
+  unfolding busyIn afterRecord
+  record-ends single =
+      let e : suc (m + suc size) ≡ m + (size + 2) = omega arith in
+      rw e at
+      (passes-on c t v (r .rows) (reads (suc size) (omega arith)) refl
+      (record {
+        deed = Record deleted (not (eqb (registerAfter v m crc (suc (suc size))) 0)) false;
+        acts = rw single at (last-act (suc size) (besideAt c (t + (m + suc size))) refl);
+        keeps = record-keeps deleted _;
+      }))
+
+  -- "With m, SR goes up by one (255 to 0) and the search starts afresh instead": what its first byte time finds
+  pub record-again :
+      isMultiple (v .order .byte) ≡ true
+      → Stands c (t + (m + (size + 2))) (raisedIn v (m + (size + 2))) 0 (v .missing) (afresh 0)
+  unfolding busyIn afterRecord regsAfter loses turnsOn effectOf delivered addressNamed recordOver recordRead cellTaken stepped halted
+  record-again multiple =
+      let here = reads (suc size) (omega arith) in
+      let e : suc (m + suc size) ≡ m + (size + 2) = omega arith in
+      let on : t + suc (m + suc size) ≡ t + (m + (size + 2)) + 0 = omega arith in
+      let act = rw multiple at (last-act (suc size) (besideAt c (t + (m + suc size))) refl) in
+      record {
+        inside = rw on at (acts-within c t v here refl);
+        view =
+            ap (λ (k : ℕ). viewOf (deskAt c k)) (sym on)
+            ∙ acts-on c t v here refl (r .rows) act
+            ∙ ap₂ (λ (row : List ℕ) (missing : Bool).
+            viewWith v row (turnsOn (suc (m + suc size)) (v .ring)) (v .tr) (raisedSr (v .sr) true) missing (afresh 0))
+            (set-getD (v .row) (turnsOn (m + suc size) (v .ring) .position) 0) (or-false (v .missing))
+            ∙ ap (raisedIn v) e;
+      }

@@ -1,3 +1,0 @@
--- Laws that the functions' proofs cite, and the cases that are proved.
-pub mod Arms
-pub mod Cases

@@ -1,0 +1,2 @@
+-- The definitions that the contracts of `transfer` cite.
+pub mod Transfers
