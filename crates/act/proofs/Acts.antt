@@ -54,10 +54,10 @@ writesIn (Format crc) = true
 writesIn (FormatCrc crc) = true
 
 -- Type I stops in one of these
-pub data Stops : Activity → Type 0 where
-  seek : {left : ℕ} → Stops (Seek left)
-  pulse : Stops Pulse
-  stop : {left : ℕ} → Stops (Stop left)
+pub data StopsIn : Activity → Type 0 where
+  seek : {left : ℕ} → StopsIn (Seek left)
+  pulse : StopsIn Pulse
+  stop : {left : ℕ} → StopsIn (Stop left)
 
 -- a count down to 0
 one-less : (n : ℕ) → cond (eqb n 0) 0 (n - 1) ≡ n - 1
@@ -98,11 +98,11 @@ module _ (o : Order) (s : Seen) where
     pulse-steps :
         Passes Pulse (Stop stepTime) (Step (o .inward) (trackAfter (updatesTrack (o .byte)) (o .inward) (s .tr)))
     stop-waits : {n : ℕ} → 1 < n → Passes (Stop n) (Stop (n - 1)) Nothing
-    stop-fails : {a : Activity} → Stops a → Passes a Idle NotFound
+    stop-fails : {a : Activity} → StopsIn a → Passes a Idle NotFound
     stop-verifies :
-        {a : Activity} {rule : Bool} → Stops a → verifiesTrack (o .byte) ≡ true
+        {a : Activity} {rule : Bool} → StopsIn a → verifiesTrack (o .byte) ≡ true
         → Passes a (Settle (settleTimeOf (s .mfm))) (Halt rule true)
-    stop-halts : {a : Activity} {rule : Bool} → Stops a → Passes a Idle (Halt rule false)
+    stop-halts : {a : Activity} {rule : Bool} → StopsIn a → Passes a Idle (Halt rule false)
     settles : {n : ℕ} → Passes (Settle n) (Settle (n - 1)) Nothing
     -- the search for an ID
     search-fails : {n : ℕ} {scan : Scan} → Passes (Search n scan) Idle NotFound
@@ -176,7 +176,7 @@ module _ (o : Order) (s : Seen) where
   either : {a : Activity} {b : Bool} {x y : Act} → (b ≡ true → Acts a x) → (b ≡ false → Acts a y) → Acts a (cond b x y)
   either {a} {b} = by-cond (Acts a) b
 
-  stop-acts : {a : Activity} (rule : Bool) → Stops a → Acts a (stopAct o s rule)
+  stop-acts : {a : Activity} (rule : Bool) → StopsIn a → Acts a (stopAct o s rule)
   unfolding stopAct
   stop-acts rule st =
       either

@@ -25,7 +25,7 @@ use Rattle.hosts.specs.Scenes.{Scene, loaded, Suits}
 use Rattle.hosts.specs.Bytes.{handed}
 use Rattle.hosts.proofs.Searching.{reads-two}
 use Rattle.hosts.proofs.RingIds.{IdOnRing}
-use Rattle.hosts.proofs.Working.{Given}
+use Rattle.hosts.proofs.Working.{TakenUp}
 use Rattle.hosts.proofs.Found.{Lost, searched, lost-none, foundPlace, foundSize, found-on, found-cells}
 use Rattle.hosts.proofs.ReadThrough.{working, heads, FoundId, cellsOn, Meets}
 use Rattle.hosts.proofs.Collected.{listed, listed-same, listed-cells}
@@ -46,7 +46,7 @@ module _ (s : Scene) (n p from to : ℕ) (reading : Reads s n)
   abbrev mfm : Bool
   mfm = s .machine .mfm
 
-  given : Given s ReadSector
+  given : TakenUp s ReadSector
   unfolding classOf heldBy writes
   given =
       record {

@@ -25,9 +25,9 @@ command-at n =
     (Restore ∷ Seek ∷ Step ∷ StepIn ∷ StepOut ∷ ReadSector ∷ WriteSector ∷ ReadAddress ∷ ReadTrack ∷ WriteTrack ∷ ForceInterrupt ∷ []) n
     Restore
 
-pub commands : {A : Type 0} (f : Command → A) {answer : A} (command : Command) (named : List Command)
+pub command-arm : {A : Type 0} (f : Command → A) {answer : A} (command : Command) (named : List Command)
     → Gives (λ n. f (command-at n)) answer (map number named) → OneOf (map number named) (number command) → answer ≡ f command
-commands = named-arm number command-at back
+command-arm = named-arm number command-at back
   where
     back : (command : Command) → command-at (number command) ≡ command
     back Restore = refl

@@ -27,14 +27,14 @@ use Rattle.search.specs.Search.{pulsesSeen, afterMatch, afterRecord}
 use Rattle.writing.specs.Writing.{lastKept, lastZero, markPlace, markCell, preambleCell}
 use Rattle.formatting.specs.Formatting.{presets, laidCell, laidCrc}
 use Rattle.act.specs.Turns.{jobBegun, actOf}
-use Rattle.act.proofs.Acts.{Stops, Passes, Writes, Acts, Enters, enters, turns}
+use Rattle.act.proofs.Acts.{StopsIn, Passes, Writes, Acts, Enters, enters, turns}
 use Rattle.registers.specs.Rings.{ringNext}
 use Rattle.effects.specs.Effects.{stepped, effectOf}
 use Rattle.effects.proofs.Apart.{regsAfter}
 use Rattle.hosts.proofs.DataFields.{mark-byte, mark-word}
 use Rattle.ends.specs.Ends.{apart}
 use Rattle.ends.proofs.Left.{Next, to-start, onward, next-place, toFifth, verifyLeft, begunLeft, down, toEnd, leftOf, Plain, verifies, reads-track, writes-track, Counted, seeks, fifth-most, fifth-some, fifth-nearer}
-use Rattle.ends.proofs.Moments.{Moment, ringAt, mfmAt, orderAt, seenAt, regsAt, left, behind, Aims, Low, Word, Good, writes, passes, ends, more-left, size, some, index, taken-byte}
+use Rattle.ends.proofs.Moments.{Moment, ringAt, mfmAt, orderAt, seenAt, regsAt, left, leftAfter, Aims, Low, Word, Good, writes, passes, ends, more-left, size, some, index, taken-byte}
 
 -- "TR moves by one towards DR"
 nearer : (tr dr : ℕ) → tr < 256 → dr < 256 → (tr ≡ dr → ⊥) → suc (apart (trackAfter true (ltb tr dr) tr) dr) ≡ apart tr dr
@@ -54,12 +54,12 @@ module _ (x : Moment) where
   -- ---- what is left
 
   -- Type I stops with its verify still to come
-  stops-left : {a : Activity} → Stops a → Counted (orderAt x) a
+  stops-left : {a : Activity} → StopsIn a → Counted (orderAt x) a
       → (jobOf (orderAt x .command) ≡ Job.Verify) × (verifyLeft (orderAt x) (mfmAt x) (ringAt x .length) < left x a)
   unfolding leftOf Counted
-  stops-left Stops.seek counted = (counted, omega arith)
-  stops-left Stops.pulse counted = (counted, omega arith)
-  stops-left Stops.stop counted = (counted, omega arith)
+  stops-left StopsIn.seek counted = (counted, omega arith)
+  stops-left StopsIn.pulse counted = (counted, omega arith)
+  stops-left StopsIn.stop counted = (counted, omega arith)
 
   step-time : down (stepTimeOf (mfmAt x) (orderAt x .byte)) ≡ stepTimeOf (mfmAt x) (orderAt x .byte)
   step-time = omega (arith, step-time-some (mfmAt x) (orderAt x .byte))
@@ -70,17 +70,17 @@ module _ (x : Moment) where
   fifth-falls : (n : ℕ) → pulsesSeen n (index x) < 5 → toFifth (pulsesSeen n (index x)) (ringNext (ringAt x)) < toFifth n (ringAt x)
   fifth-falls n few = fifth-nearer (ringAt x) (x .inside) (some x) n (lt-leb 5 _ few)
 
-  await-falls : index x ≡ false → behind x Deed.Nothing Await < left x Await
+  await-falls : index x ≡ false → leftAfter x Deed.Nothing Await < left x Await
   unfolding leftOf
   await-falls off = by (next-place (ringAt x) (x .inside))
     where
-      by : Next (ringAt x) → behind x Deed.Nothing Await < left x Await
+      by : Next (ringAt x) → leftAfter x Deed.Nothing Await < left x Await
       by (to-start e there) = rw (there, off) (omega arith)
       by (onward e there) = rw (there, off, ne-eqb (suc (ringAt x .position)) 0 (omega arith)) (omega arith)
 
   -- a cell of a track, of which the last ends the command
   track-falls : (cell : ℕ) (next : Activity) (deed : Deed) → cell ≤ 511 → Counted (orderAt x) next → seeks next ≡ false
-      → behind x deed next ≡ toEnd (ringNext (ringAt x))
+      → leftAfter x deed next ≡ toEnd (ringNext (ringAt x))
       → Good x (toEnd (ringAt x)) (write cell (cond (seenAt x .last) Idle next) deed)
   unfolding leftOf Counted seeks ringNext
   track-falls cell next deed low counted still is =

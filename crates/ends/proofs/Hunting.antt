@@ -25,7 +25,7 @@ use Rattle.hosts.specs.Tracks.{positionAt}
 use Rattle.hosts.proofs.RingLaws.{reached, mark-moved, passing-ring}
 use Rattle.hosts.proofs.Keeps.{nothing-keeps}
 use Rattle.hosts.proofs.Views.{View, Outside, seenIn, actIn}
-use Rattle.hosts.proofs.Phases.{stands, Passes, rests}
+use Rattle.hosts.proofs.Phases.{stands, PhasePasses, rests}
 use Rattle.hosts.proofs.Passing.{streamFrom, OnTrack, head-inside, cell-at}
 use Rattle.hosts.proofs.Seeking.{Seeker, countedWith, SeeksIn}
 
@@ -38,7 +38,7 @@ isId (Mark b) = eqb b 0xFE
 
 module _ (s : Seen) (pulses : ℕ) where
   -- other marks are passed over
-  hunts-on : (p : Passed) → isId p ≡ false → Passes s (huntStep s pulses p) (Hunt pulses (runPast p))
+  hunts-on : (p : Passed) → isId p ≡ false → PhasePasses s (huntStep s pulses p) (Hunt pulses (runPast p))
   unfolding huntStep addressBegun isId runPast
   hunts-on (Gap run) e = rests s (pass s (Hunt pulses run) Nothing) (Hunt pulses run) refl
   hunts-on (Mark b) e = rests s _ (Hunt pulses 0) (simp e)

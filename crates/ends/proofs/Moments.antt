@@ -54,8 +54,8 @@ regsAt x = record { tr = x .view .tr; sr = x .view .sr; dr = x .outside .dr }
 abbrev pub left : Moment → Activity → ℕ
 left x = leftOf (orderAt x) (mfmAt x) (x .target) (ringAt x) (x .view .tr)
 
-abbrev pub behind : Moment → Deed → Activity → ℕ
-behind x deed = leftOf (orderAt x) (mfmAt x) (x .target) (ringNext (ringAt x)) (regsAfter (regsAt x) deed .tr)
+abbrev pub leftAfter : Moment → Deed → Activity → ℕ
+leftAfter x deed = leftOf (orderAt x) (mfmAt x) (x .target) (ringNext (ringAt x)) (regsAfter (regsAt x) deed .tr)
 
 -- a command that is seeking goes on: DR is the target, and TR a byte
 abbrev pub Aims : Moment → Regs → Type 0
@@ -72,7 +72,7 @@ Word crc = crc < 65536
 
 -- it leaves fewer byte times than `most`, something that is counted on, and a cell that may pass again
 pub record Good (x : Moment) (most : ℕ) (act : Act) : Type 0 where
-  pub falls : behind x (act .deed) (act .next) < most
+  pub falls : leftAfter x (act .deed) (act .next) < most
   pub counted : Counted (orderAt x) (act .next)
   pub low : act .cell ≤ 511
   pub aims : seeks (act .next) ≡ true → Aims x (regsAfter (regsAt x) (act .deed))
@@ -81,7 +81,7 @@ module _ (x : Moment) where
   -- one that does not step on
   pub writes : (most cell : ℕ) (next : Activity) (deed : Deed)
       → cell ≤ 511
-      → behind x deed next < most
+      → leftAfter x deed next < most
       → Counted (orderAt x) next
       → seeks next ≡ false
       → Good x most (write cell next deed)
@@ -89,7 +89,7 @@ module _ (x : Moment) where
       record { falls = falls; counted = counted; low = low; aims = λ e. never (cc) }
 
   pub passes : (most : ℕ) (next : Activity) (deed : Deed)
-      → behind x deed next < most
+      → leftAfter x deed next < most
       → Counted (orderAt x) next
       → seeks next ≡ false
       → Good x most (pass (seenAt x) next deed)

@@ -20,7 +20,7 @@ use Rattle.wd.specs.Loads.{commandBegun}
 use Rattle.hosts.specs.Hosts.{at}
 use Rattle.hosts.specs.Scenes.{Scene, loaded, settling}
 use Rattle.hosts.proofs.LowRows.{LowRow}
-use Rattle.hosts.proofs.Working.{Given, given-view, Working, low-working, ground, Heads, headsOn, settling-lasts}
+use Rattle.hosts.proofs.Working.{TakenUp, given-view, Working, low-working, ground, Heads, headsOn, settling-lasts}
 use Rattle.ends.specs.Ends.{EndPremises}
 use Rattle.ends.proofs.Left.{leftOf, begunLeft, Plain, Counted, seeks}
 use Rattle.ends.proofs.Drains.{Over, over-now, earlier, drains-from}
@@ -29,7 +29,7 @@ use Rattle.ends.proofs.Begun.{started, led}
 -- a command that does not end in the load
 pub record Stays (s : Scene) (command : Command) : Type 0 where
   pub asked : EndPremises s command
-  pub given : Given s command
+  pub given : TakenUp s command
 
 module _ {s : Scene} {command : Command} (x : Stays s command) where
   abbrev pub lowWorking : Working LowRow s command

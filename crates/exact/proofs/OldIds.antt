@@ -12,18 +12,18 @@ use Rattle.writing.specs.Writing.{lastKept}
 use Rattle.fields.specs.Rings.{cellsOf}
 use Rattle.fields.proofs.Rings.{each-round}
 use Rattle.hosts.proofs.RingLaws.{reached, id-moved, says-moved}
-use Rattle.exact.proofs.SectorField.{Field, cellOf, reachOf, numbers, kept}
+use Rattle.exact.proofs.SectorField.{Field, cellOf, fieldReach, numbers, kept}
 use Rattle.exact.proofs.OneMark.{Behind, no-id}
 
 -- the field stands after the ID that stands from cell p on, and all else is as it was
 pub record WrittenOver (before now : List ℕ) (p : ℕ) (f : Field) : Type 0 where
   pub same-length : length now ≡ length before
   pub inside : p < length before
-  pub fits : idWidth (f .mfm) + reachOf f ≤ length before
-  pub inner : (j : ℕ) → j < reachOf f → cellsOf now (p + idWidth (f .mfm) + j) ≡ cellOf f j
+  pub fits : idWidth (f .mfm) + fieldReach f ≤ length before
+  pub inner : (j : ℕ) → j < fieldReach f → cellsOf now (p + idWidth (f .mfm) + j) ≡ cellOf f j
   pub outer :
       (j : ℕ)
-      → reachOf f ≤ j
+      → fieldReach f ≤ j
       → j < length before
       → cellsOf now (p + idWidth (f .mfm) + j) ≡ cellsOf before (p + idWidth (f .mfm) + j)
   pub stood : (j : ℕ) → f .old j ≡ cellsOf before (p + idWidth (f .mfm) + j)
@@ -33,7 +33,7 @@ module _ (before now : List ℕ) (p : ℕ) (f : Field) (o : WrittenOver before n
   width = idWidth (f .mfm)
 
   -- after the field, up to the ID's end in the next round
-  far-same : (x : ℕ) → width + reachOf f ≤ x → x < length before + width → cellsOf now (p + x) ≡ cellsOf before (p + x)
+  far-same : (x : ℕ) → width + fieldReach f ≤ x → x < length before + width → cellsOf now (p + x) ≡ cellsOf before (p + x)
   far-same x l h =
       let e : p + x ≡ p + width + (x - width) = omega arith in
       ap (cellsOf now) e ∙ o .outer (x - width) (omega arith) (omega arith) ∙ ap (cellsOf before) (sym e)
@@ -63,7 +63,7 @@ module _ (before now : List ℕ) (p : ℕ) (f : Field) (o : WrittenOver before n
   pub others-kept :
       (j : ℕ)
       → j < length before
-      → (j < lastKept (f .mfm)) ⊎ (reachOf f ≤ j)
+      → (j < lastKept (f .mfm)) ⊎ (fieldReach f ≤ j)
       → cellsOf now (p + width + j) ≡ cellsOf before (p + width + j)
   others-kept j l (inl h) =
       let e : p + (width + j) ≡ p + width + j = omega arith in
@@ -80,12 +80,12 @@ module _ (before now : List ℕ) (p : ℕ) (f : Field) (o : WrittenOver before n
         → (i : ℕ)
         → i < width
         → cellsOf now (p + y + i) ≡ cellsOf before (p + y + i)
-    cells-same y l id i h = by (decLt y width) (decLt y (width + reachOf f))
+    cells-same y l id i h = by (decLt y width) (decLt y (width + fieldReach f))
       where
         e : p + (y + i) ≡ p + y + i
         e = omega arith
 
-        by : Dec (y < width) → Dec (y < width + reachOf f) → cellsOf now (p + y + i) ≡ cellsOf before (p + y + i)
+        by : Dec (y < width) → Dec (y < width + fieldReach f) → cellsOf now (p + y + i) ≡ cellsOf before (p + y + i)
         by (yes a) d = rw (← e) (near-same (y + i) (omega (arith, numbers (f .mfm) .id-fits)))
         by (no a) (no d) = rw (← e) (far-same (y + i) (omega arith) (omega arith))
         by (no a) (yes d) =

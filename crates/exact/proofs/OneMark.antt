@@ -15,13 +15,13 @@ use Rattle.scan.proofs.DataMarks.{data-marks}
 use Rattle.writing.specs.Writing.{lastKept, lastZero, markPlace, markCell}
 use Rattle.hosts.proofs.DataFields.{mark-byte}
 use Rattle.exact.specs.Demand2.{NoMark}
-use Rattle.exact.proofs.SectorField.{Field, cellOf, putCell, reachOf, numbers, kept, zeros, leads, marked, put, put-plain}
+use Rattle.exact.proofs.SectorField.{Field, cellOf, fieldPut, fieldReach, numbers, kept, zeros, leads, marked, put, put-plain}
 
 -- a stream that begins with the field
 pub record Behind (f : Field) (cells : ℕ → ℕ) : Type 0 where
   pub low : (i : ℕ) → i < f .size → f .bytes i < 256
   pub clear : NoMark (f .mfm) (f .old) (lastKept (f .mfm))
-  pub are : (j : ℕ) → j < reachOf f → cells j ≡ cellOf f j
+  pub are : (j : ℕ) → j < fieldReach f → cells j ≡ cellOf f j
 
 -- the first 00, the first cell after the 00s, and the first after the mark
 abbrev zero : Field → ℕ
@@ -35,10 +35,10 @@ data-first f = markPlace (f .mfm)
 
 -- after the mark's cell none is flagged
 plain-behind :
-    (f : Field) (cells : ℕ → ℕ) → Behind f cells → (j : ℕ) → data-first f ≤ j → j < reachOf f → cells j < 256
+    (f : Field) (cells : ℕ → ℕ) → Behind f cells → (j : ℕ) → data-first f ≤ j → j < fieldReach f → cells j < 256
 plain-behind f cells b j l h =
     let e : data-first f + (j - data-first f) ≡ j = omega arith in
-    let q : cells j ≡ putCell f (j - data-first f) = b .are j h ∙ ap (cellOf f) (sym e) ∙ put f (j - data-first f) in
+    let q : cells j ≡ fieldPut f (j - data-first f) = b .are j h ∙ ap (cellOf f) (sym e) ∙ put f (j - data-first f) in
     omega (arith, q, put-plain f (b .low) (j - data-first f))
 
 -- the one mark in the field
@@ -50,7 +50,7 @@ one-fm :
     → f .mfm ≡ false
     → Behind f cells
     → (a b : ℕ)
-    → a < reachOf f
+    → a < fieldReach f
     → MarkAt false cells a b
     → OneAt f a b
 unfolding MarkAt markCell leadOf
@@ -76,7 +76,7 @@ one-mfm :
     → Behind f cells
     → (a b : ℕ)
     → 1 ≤ b
-    → a < reachOf f
+    → a < fieldReach f
     → MarkAt true cells a b
     → OneAt f a b
 unfolding MarkAt markCell leadOf
@@ -138,7 +138,7 @@ pub one-mark :
     → Behind f cells
     → (a b : ℕ)
     → 1 ≤ b
-    → a < reachOf f
+    → a < fieldReach f
     → MarkAt (f .mfm) cells a b
     → (a ≡ lastZero (f .mfm)) × (b ≡ markByte (f .data-mark))
 one-mark f cells v a b some inside mark = by (f .mfm) refl
@@ -150,7 +150,7 @@ one-mark f cells v a b some inside mark = by (f .mfm) refl
 -- ---- what the scanners make of it
 
 -- "An ID is mark FE ..": none begins in the field
-pub no-id : (f : Field) (cells : ℕ → ℕ) → Behind f cells → (a : ℕ) → a < reachOf f → IdAt (f .mfm) cells a → ⊥
+pub no-id : (f : Field) (cells : ℕ → ℕ) → Behind f cells → (a : ℕ) → a < fieldReach f → IdAt (f .mfm) cells a → ⊥
 no-id f cells v a inside id =
     let one = one-mark f cells v a 0xFE (omega arith) inside (id .mark) in
     omega (arith, one .1, mark-byte (f .data-mark) .1)

@@ -23,7 +23,7 @@ use Rattle.hosts.proofs.Idling.{same-density, left-row}
 use Rattle.hosts.specs.Scenes.{Suits}
 use Rattle.hosts.proofs.Searching.{reads-two}
 use Rattle.hosts.proofs.RingIds.{IdOnRing}
-use Rattle.hosts.proofs.Working.{Given, given-view}
+use Rattle.hosts.proofs.Working.{TakenUp, given-view}
 use Rattle.hosts.proofs.Found.{Lost, searched, lost-none, foundPlace, foundSize, found-on, found-cells}
 use Rattle.hosts.proofs.ReadThrough.{FieldIn, EndedRead, working, heads, FoundId, cellsOn}
 use Rattle.exact.specs.Demand2.{Session, begun, asked, writeScene, readScene, Commands, FewerPremises, clearCells}
@@ -84,7 +84,7 @@ module _ (s : Session) (p : ℕ) (a : FewerPremises s p) where
       rw e at
       (left-row (s .writer) (begun s) (s .written) (s .waited - s .written) (λ i l. k .next i (omega arith)) (k .ends .over))
 
-  pub given : Given (readScene s) ReadSector
+  pub given : TakenUp (readScene s) ReadSector
   unfolding classOf heldBy writes
   given =
       record {

@@ -25,8 +25,8 @@ abbrev pub sumOf : Field → ℕ
 sumOf f = sumAfter (markCrc (f .mfm) (markByte (f .data-mark))) (f .bytes) (f .size)
 
 -- "the data, two CRC bytes, one FF"
-unfoldable pub putCell : Field → ℕ → ℕ
-putCell f i =
+unfoldable pub fieldPut : Field → ℕ → ℕ
+fieldPut f i =
     cond (ltb i (f .size)) (f .bytes i)
     (cond (eqb i (f .size)) (sumOf f / 256) (cond (eqb i (f .size + 1)) (sumOf f % 256) 0xFF))
 
@@ -35,11 +35,11 @@ unfoldable pub cellOf : Field → ℕ → ℕ
 cellOf f j =
     cond (ltb j (markPlace (f .mfm)))
     (preambleCell (f .mfm) (j + 1) (markByte (f .data-mark)) (f .old j))
-    (putCell f (j - markPlace (f .mfm)))
+    (fieldPut f (j - markPlace (f .mfm)))
 
 -- from the ID's last cell to the FF
-abbrev pub reachOf : Field → ℕ
-reachOf f = markPlace (f .mfm) + f .size + 3
+abbrev pub fieldReach : Field → ℕ
+fieldReach f = markPlace (f .mfm) + f .size + 3
 
 -- ---- numbers of both densities
 
@@ -58,7 +58,7 @@ numbers true =
     record { kept-first = omega arith; mark-last = refl; near = omega arith; some = omega arith; id-fits = omega arith }
 
 -- "n + 10 or n + 19 cells in all"
-pub in-all : (f : Field) → reachOf f ≡ lastKept (f .mfm) + (f .size + cond (f .mfm) 19 10)
+pub in-all : (f : Field) → fieldReach f ≡ lastKept (f .mfm) + (f .size + cond (f .mfm) 19 10)
 unfolding lastKept lastZero markPlace leadOf
 in-all f = by (f .mfm)
   where
@@ -115,22 +115,22 @@ module _ (f : Field) where
       )
 
   -- after the mark
-  pub put : (i : ℕ) → cellOf f (markPlace (f .mfm) + i) ≡ putCell f i
+  pub put : (i : ℕ) → cellOf f (markPlace (f .mfm) + i) ≡ fieldPut f i
   unfolding cellOf
   put i =
       let e : markPlace (f .mfm) + i - markPlace (f .mfm) ≡ i = omega arith in
       simp (le-ltb (markPlace (f .mfm) + i) (markPlace (f .mfm)) (omega arith), e)
 
-  pub put-data : (i : ℕ) → i < f .size → putCell f i ≡ f .bytes i
-  unfolding putCell
+  pub put-data : (i : ℕ) → i < f .size → fieldPut f i ≡ f .bytes i
+  unfolding fieldPut
   put-data i h = simp (lt-ltb i (f .size) h)
 
-  pub put-high : putCell f (f .size) ≡ sumOf f / 256
-  unfolding putCell
+  pub put-high : fieldPut f (f .size) ≡ sumOf f / 256
+  unfolding fieldPut
   put-high = simp (le-ltb (f .size) (f .size) (omega arith), eq-eqb (f .size) (f .size) refl)
 
-  pub put-low : putCell f (f .size + 1) ≡ sumOf f % 256
-  unfolding putCell
+  pub put-low : fieldPut f (f .size + 1) ≡ sumOf f % 256
+  unfolding fieldPut
   put-low =
       simp (
         le-ltb (f .size + 1) (f .size) (omega arith),
@@ -138,8 +138,8 @@ module _ (f : Field) where
         eq-eqb (f .size + 1) (f .size + 1) refl,
       )
 
-  pub put-last : putCell f (f .size + 2) ≡ 0xFF
-  unfolding putCell
+  pub put-last : fieldPut f (f .size + 2) ≡ 0xFF
+  unfolding fieldPut
   put-last =
       simp (
         le-ltb (f .size + 2) (f .size) (omega arith),
@@ -154,8 +154,8 @@ module _ (f : Field) where
         sum-below _ (f .bytes) (f .size) (mark-word (f .mfm) (markByte (f .data-mark)) (omega (arith, b .1))) low
 
     -- no cell after the mark is flagged
-    pub put-plain : (i : ℕ) → putCell f i < 256
-    unfolding putCell
+    pub put-plain : (i : ℕ) → fieldPut f i < 256
+    unfolding fieldPut
     put-plain i =
         let word : sumOf f < 65536 = sum-word in
         by-cond (λ (c : ℕ). c < 256) (ltb i (f .size)) (λ t. low i (ltb-true i (f .size) t))

@@ -37,7 +37,7 @@ use Rattle.hosts.proofs.Phases.{stands, from-there}
 use Rattle.hosts.proofs.Passing.{OnTrack, on-track}
 use Rattle.hosts.proofs.Searching.{writes-two}
 use Rattle.hosts.proofs.RingIds.{IdOnRing}
-use Rattle.hosts.proofs.Working.{Given, given-ring, Working, ended-working, ended-upto, courseOf, Heads, heads-by, beginning, beginning-track}
+use Rattle.hosts.proofs.Working.{TakenUp, given-ring, Working, ended-working, ended-upto, courseOf, Heads, heads-by, beginning, beginning-track}
 use Rattle.hosts.proofs.Found.{Found, Lost, searched, lost-over, foundTime, foundPlace, foundSize, found-on, found-view, found-place, found-silent}
 use Rattle.hosts.proofs.CutHosts.{until, served-same, until-alone}
 use Rattle.hosts.proofs.DrByte.{found-byte}
@@ -46,7 +46,7 @@ use Rattle.hosts.proofs.Collected.{listed, listed-same, Stretch, collects}
 use Rattle.command.proofs.Tables.{size-most}
 use Rattle.exact.specs.Demand2.{Session, writeScene, begun, Commands, NoMark, after}
 use Rattle.exact.proofs.NextCommand.{later}
-use Rattle.exact.proofs.SectorField.{Field, reachOf}
+use Rattle.exact.proofs.SectorField.{Field, fieldReach}
 use Rattle.exact.proofs.OneMark.{Behind}
 use Rattle.exact.proofs.OldIds.{WrittenOver}
 use Rattle.exact.proofs.WriteStages.{WriteBegun, field, takes-ring, written-over, took-dr, asks-deed, take-deed, high-deed, low-deed, last-deed}
@@ -95,7 +95,7 @@ module _ (s : Session) (k : Commands s) where
           ∙ k .fine .protected in
           never (cc)
 
-  pub given : Given (writeScene s) WriteSector
+  pub given : TakenUp (writeScene s) WriteSector
   unfolding classOf
   given =
       record {
@@ -192,7 +192,7 @@ module _ (s : Session) (k : Commands s) where
       ∙ after-id (markPlace (s .machine .mfm) + i)
 
   -- the FF ends it
-  pub over : time + reachOf written ≡ s .written
+  pub over : time + fieldReach written ≡ s .written
   over = written-over (courseOf working) time size there writes-field
 
   low-byte : (i : ℕ) → i < size → written .bytes i < 256

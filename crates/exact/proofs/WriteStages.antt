@@ -36,7 +36,7 @@ use Rattle.hosts.proofs.Courses.{Course, deskAt, besideAt, AnyRow, ends-there, 
 use Rattle.hosts.proofs.Phases.{comes, Comes, Stands, comes-busy, writes-on, flags-on, deed-is}
 use Rattle.hosts.proofs.Keeps.{Keeps, nothing-keeps, ask-keeps, take-keeps, late-keeps, written-keeps}
 use Rattle.exact.proofs.RoundPlaces.{round-apart}
-use Rattle.exact.proofs.SectorField.{Field, cellOf, reachOf, numbers, put, put-data, put-high, put-low, put-last}
+use Rattle.exact.proofs.SectorField.{Field, cellOf, fieldReach, numbers, put, put-data, put-high, put-low, put-last}
 use Rattle.effects.specs.Effects.{effectOf, delivered, addressNamed, recordOver, recordRead, cellTaken, stepped, halted}
 use Rattle.scan.specs.DataMarks.{markByte}
 
@@ -115,10 +115,10 @@ module _ {n : ℕ} (c : Course AnyRow) (t size : ℕ) (v : View) (b : WriteBegun
 
   -- ---- the places
 
-  reach-fits : reachOf field < length (v .row)
+  reach-fits : fieldReach field < length (v .row)
   reach-fits = omega (arith, b .held .least, b .whole, b .short, numbers (v .mfm) .near)
 
-  pub places : Places (v .row) place (reachOf field)
+  pub places : Places (v .row) place (fieldReach field)
   places =
       record {
         inside =
@@ -135,7 +135,7 @@ module _ {n : ℕ} (c : Course AnyRow) (t size : ℕ) (v : View) (b : WriteBegun
       at-place j = turns-position j (v .ring) (b .held .inside)
 
   -- a cell that is not laid yet stands as it was
-  ahead : (j : ℕ) → j < reachOf field → getD (rowWith j) (place j) 0 ≡ getD (v .row) (place j) 0
+  ahead : (j : ℕ) → j < fieldReach field → getD (rowWith j) (place j) 0 ≡ getD (v .row) (place j) 0
   ahead j l = laid-out (v .row) place (cellOf field) j (place j) 0 (λ i h e. places .apart i j h l (sym e))
 
   -- ---- up to the mark
@@ -278,19 +278,19 @@ module _ {n : ℕ} (c : Course AnyRow) (t size : ℕ) (v : View) (b : WriteBegun
   -- ---- its end
 
   -- "The FF ends it."
-  ended : Writes (reachOf field) Idle
+  ended : Writes (fieldReach field) Idle
   unfolding busyIn
   ended =
-      let e : suc (mark + (size + 2)) ≡ reachOf field = omega arith in
+      let e : suc (mark + (size + 2)) ≡ fieldReach field = omega arith in
       rw e at (lays-on (mark + (size + 2)) low refl last-act written-keeps)
 
-  pub written-over : t + reachOf field ≡ n
+  pub written-over : t + fieldReach field ≡ n
   unfolding busyIn
   written-over =
-      let e : suc (mark + (size + 2)) ≡ reachOf field = omega arith in
+      let e : suc (mark + (size + 2)) ≡ fieldReach field = omega arith in
       rw e at (over-there (mark + (size + 2)) low refl (lays-on (mark + (size + 2)) low refl last-act written-keeps))
 
-  pub written-row : deskAt c (n) .row ≡ rowWith (reachOf field)
+  pub written-row : deskAt c (n) .row ≡ rowWith (fieldReach field)
   written-row =
       ap (λ (k : ℕ). deskAt c k .row) (sym written-over) ∙ ap (λ (w : View). w .row) (ended .view)
 

@@ -13,7 +13,7 @@ use Rattle.writing.specs.Writing.{lastKept, lastZero, markPlace}
 use Rattle.hosts.proofs.DataFields.{sumAfter, sum-same}
 use Rattle.hosts.proofs.Windows.{unmet-by}
 use Rattle.hosts.proofs.ReadThrough.{FieldIn}
-use Rattle.exact.proofs.SectorField.{Field, sumOf, putCell, numbers, put, put-data, put-high, put-low, sum-word}
+use Rattle.exact.proofs.SectorField.{Field, sumOf, fieldPut, numbers, put, put-data, put-high, put-low, sum-word}
 use Rattle.exact.proofs.OneMark.{Behind, none-before, met-there}
 
 -- the window is wide enough for the mark
@@ -24,7 +24,7 @@ in-window true = omega arith
 
 module _ (f : Field) (cells : ℕ → ℕ) (b : Behind f cells) where
   -- the cells after the mark, as the write put them
-  cell-put : (i : ℕ) → i < f .size + 3 → cells (markPlace (f .mfm) + i) ≡ putCell f i
+  cell-put : (i : ℕ) → i < f .size + 3 → cells (markPlace (f .mfm) + i) ≡ fieldPut f i
   cell-put i l = b .are (markPlace (f .mfm) + i) (omega arith) ∙ put f i
 
   -- their bytes

@@ -17,7 +17,7 @@ use Rattle.hosts.proofs.Passing.{place}
 use Rattle.hosts.proofs.Courses.{Course, deskAt, AnyRow}
 use Rattle.exact.specs.Demand2.{NoMark, after}
 use Rattle.exact.proofs.RoundPlaces.{round-apart}
-use Rattle.exact.proofs.SectorField.{Field, cellOf, reachOf, numbers}
+use Rattle.exact.proofs.SectorField.{Field, cellOf, fieldReach, numbers}
 use Rattle.exact.proofs.OneMark.{Behind}
 use Rattle.exact.proofs.OldIds.{WrittenOver}
 use Rattle.exact.proofs.WriteStages.{WriteBegun, field, took, written-row, places}
@@ -34,7 +34,7 @@ module _ {n : ℕ} (c : Course AnyRow) (t size : ℕ) (v : View) (b : WriteBegun
   now-length : length now ≡ length (v .row)
   now-length =
       ap length (written-row c t size v b)
-      ∙ laid-length (v .row) (λ j. turnsOn j (v .ring) .position) (cellOf f) (reachOf f)
+      ∙ laid-length (v .row) (λ j. turnsOn j (v .ring) .position) (cellOf f) (fieldReach f)
 
   on-ring : (row : List ℕ) → length row ≡ length (v .row) → (j : ℕ)
       → cellsOf row (p + idWidth (v .mfm) + j) ≡ getD row (turnsOn j (v .ring) .position) 0
@@ -46,7 +46,7 @@ module _ {n : ℕ} (c : Course AnyRow) (t size : ℕ) (v : View) (b : WriteBegun
   from-head : (j : ℕ) → turnsOn j (v .ring) .position ≡ (v .ring .position + j) % length (v .row)
   from-head = place v (record { whole = b .whole; inside = b .held .inside })
 
-  as-laid : (q : ℕ) → getD now q 0 ≡ getD (laidRow (v .row) (λ j. turnsOn j (v .ring) .position) (cellOf f) (reachOf f)) q 0
+  as-laid : (q : ℕ) → getD now q 0 ≡ getD (laidRow (v .row) (λ j. turnsOn j (v .ring) .position) (cellOf f) (fieldReach f)) q 0
   as-laid q = ap (λ (row : List ℕ). getD row q 0) (written-row c t size v b)
 
   pub written-over-track : WrittenOver (v .row) now p f
@@ -60,12 +60,12 @@ module _ {n : ℕ} (c : Course AnyRow) (t size : ℕ) (v : View) (b : WriteBegun
             λ j l.
             on-ring now now-length j
             ∙ as-laid (turnsOn j (v .ring) .position)
-            ∙ laid-in (v .row) (λ j. turnsOn j (v .ring) .position) (cellOf f) (reachOf f) (places c t size v b) j 0 l;
+            ∙ laid-in (v .row) (λ j. turnsOn j (v .ring) .position) (cellOf f) (fieldReach f) (places c t size v b) j 0 l;
         outer =
             λ j l h.
             on-ring now now-length j
             ∙ as-laid (turnsOn j (v .ring) .position)
-            ∙ laid-out (v .row) (λ j. turnsOn j (v .ring) .position) (cellOf f) (reachOf f) (turnsOn j (v .ring) .position) 0
+            ∙ laid-out (v .row) (λ j. turnsOn j (v .ring) .position) (cellOf f) (fieldReach f) (turnsOn j (v .ring) .position) 0
             (λ i k e.
             round-apart (length (v .row)) (v .ring .position) i j (omega (arith, b .held .inside, b .whole)) (omega arith) h
             (sym (from-head i) ∙ sym e ∙ from-head j))
@@ -73,7 +73,7 @@ module _ {n : ℕ} (c : Course AnyRow) (t size : ℕ) (v : View) (b : WriteBegun
         stood = λ j. sym (on-ring (v .row) refl j);
       }
     where
-      narrow : idWidth (v .mfm) + reachOf f ≤ length (v .row)
+      narrow : idWidth (v .mfm) + fieldReach f ≤ length (v .row)
       narrow =
           let n = numbers (v .mfm) in
           omega (arith, n .id-fits, n .kept-first, n .mark-last, n .near, b .short, b .held .least, b .whole)

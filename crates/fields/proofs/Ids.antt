@@ -227,8 +227,8 @@ overlap false cells a d h g l = overlap-fm cells a d h g (omega arith)
 overlap true cells a d h g l = overlap-mfm cells a d h g (omega arith)
 
 -- two IDs do not overlap
-pub apart : (mfm : Bool) (cells : ℕ → ℕ) (a b : ℕ) → IdAt mfm cells a → IdAt mfm cells b → a < b → a + idWidth mfm ≤ b
-apart mfm cells a b h g l = by (decLt b (a + idWidth mfm))
+pub ids-apart : (mfm : Bool) (cells : ℕ → ℕ) (a b : ℕ) → IdAt mfm cells a → IdAt mfm cells b → a < b → a + idWidth mfm ≤ b
+ids-apart mfm cells a b h g l = by (decLt b (a + idWidth mfm))
   where
     by : Dec (b < a + idWidth mfm) → a + idWidth mfm ≤ b
     by (yes near) =
@@ -244,7 +244,7 @@ pub later-ids :
     → IdWithin mfm cells from to b
     → IdWithin mfm cells (a + idWidth mfm) to b
 later-ids mfm cells from to a b h l w =
-    record { low = apart mfm cells a b h (w .stands) l; high = w .high; stands = w .stands }
+    record { low = ids-apart mfm cells a b h (w .stands) l; high = w .high; stands = w .stands }
 
 -- "IDs by cell of FE, round the ring": those that stand whole from the mark's lead before the second round of L cells up to
 -- six cells after it are those whose FE stands in that round

@@ -138,8 +138,8 @@ begun-view s command accepted e works goes =
 
 -- ---- what it leaves in the status bits and in DR
 
-abbrev pub clearFlags : Bool → Flags
-clearFlags held =
+abbrev pub flagsGiven : Bool → Flags
+flagsGiven held =
     record { type1 = false; protected = held; deleted = false; missing = false; crc = false; lost = false }
 
 -- "An accepted command .. clears bits 3, 4, Lost Data, type bits and DRQ", "a write under protection sets bit 6"
@@ -148,7 +148,7 @@ module _ (s : Scene) (command : Command) (is : decodedOf (s .byte) ≡ Taken com
   taken-up : loaded s .machine ≡ commandBegun (s .machine) (s .lines) (s .byte) command
   taken-up = accepted-machine (s .machine) (s .lines) (s .byte) accepted command is
 
-  pub given-flags : loaded s .machine .flags ≡ clearFlags (heldBy command (s .lines))
+  pub given-flags : loaded s .machine .flags ≡ flagsGiven (heldBy command (s .lines))
   unfolding commandBegun beginFlags
   given-flags =
       ap (λ (m : Machine). m .flags) taken-up

@@ -42,18 +42,18 @@ stands v n = comes v n (v .row)
 -- ---- acts
 
 -- an act of a phase: nothing is written, and nothing but the activity changes
-pub record Passes (s : Seen) (act : Act) (next : Activity) : Type 0 where
+pub record PhasePasses (s : Seen) (act : Act) (next : Activity) : Type 0 where
   pub deed : Deed
   pub acts : act ≡ pass s next deed
   pub keeps : Keeps deed
 
 -- one that does nothing else
-pub rests : (s : Seen) (act : Act) (next : Activity) → act ≡ pass s next Nothing → Passes s act next
+pub rests : (s : Seen) (act : Act) (next : Activity) → act ≡ pass s next Nothing → PhasePasses s act next
 rests s act next acts = record { deed = Nothing; acts = acts; keeps = nothing-keeps }
 
 -- of a view
 abbrev pub PassesTo : View → Outside → Activity → Type 0
-PassesTo v o next = Passes (seenIn v o) (actIn v o) next
+PassesTo v o next = PhasePasses (seenIn v o) (actIn v o) next
 
 -- ---- a command that has come to a view
 

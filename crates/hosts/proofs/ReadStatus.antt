@@ -19,7 +19,7 @@ use Rattle.hosts.specs.Hosts.{Host, Desk, servedAt, at}
 use Rattle.hosts.specs.Scenes.{Scene, loaded}
 use Rattle.hosts.specs.Bytes.{deedAt, hands, LateAt}
 use Rattle.hosts.proofs.ByteTimes.{next-flags, kind-later}
-use Rattle.hosts.proofs.Accepted.{clearFlags, given-flags}
+use Rattle.hosts.proofs.Accepted.{flagsGiven, given-flags}
 use Rattle.hosts.proofs.Silent.{Silent}
 use Rattle.hosts.proofs.Found.{found-crc}
 use Rattle.hosts.proofs.ReadDeeds.{Moves, crc-kept, lost-by, status-is}
@@ -52,7 +52,7 @@ module _ {s : Scene} {n : ℕ} (r : Meets s n) where
       → flagsAt (suc i) ≡ flagsAfter (flagsAt i) (servedAt h i (at h d i) .machine .wires .drq) (doing i)
   steps i l = next-flags h d i (calm r i l)
 
-  begun-flags : loaded s .machine .flags ≡ clearFlags (heldBy ReadSector (s .lines))
+  begun-flags : loaded s .machine .flags ≡ flagsGiven (heldBy ReadSector (s .lines))
   begun-flags = given-flags s ReadSector (r .reads .given .decodes) (r .reads .given .works) (r .reads .given .accepted)
 
   -- neither a CRC error: from the ID on bit 3 stays off

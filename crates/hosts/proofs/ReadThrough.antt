@@ -32,7 +32,7 @@ use Rattle.hosts.proofs.Silent.{Silent}
 use Rattle.hosts.proofs.Records.{byteAfter, registerAfter, Marked, data-ring, hands-deed, first-deed, last-deed}
 use Rattle.hosts.proofs.Windows.{FirstMarkIn, cellsAfter, Opened, awaits-deed}
 use Rattle.hosts.proofs.Searching.{reads-two}
-use Rattle.hosts.proofs.Working.{Given, OverAt, Working, ended-working, courseOf, Heads, heads-by, beginning}
+use Rattle.hosts.proofs.Working.{TakenUp, OverAt, Working, ended-working, courseOf, Heads, heads-by, beginning}
 use Rattle.hosts.proofs.Found.{Found, foundTime, foundPlace, foundSize, found-place, found-silent}
 use Rattle.hosts.proofs.ReadEnds.{found-opens, found-marked, marked-over}
 use Rattle.hosts.proofs.Collected.{listed, listed-same, Stretch, collects}
@@ -51,7 +51,7 @@ pub record FieldIn (mfm : Bool) (cells : ℕ → ℕ) (size : ℕ) (mark : DataM
 
 -- a single Read Sector that ends by itself in byte time n
 pub record EndedRead (s : Scene) (n : ℕ) : Type 0 where
-  pub given : Given s ReadSector
+  pub given : TakenUp s ReadSector
   pub alone : AloneUntil (s .host) (loaded s) n
   pub ends : EndsAt (s .host) (loaded s) n
   pub single : isMultiple (s .byte) ≡ false

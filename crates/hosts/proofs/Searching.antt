@@ -25,7 +25,7 @@ use Rattle.search.specs.Search.{sideMatches, sectorMatches, matchesFor, afterMa
 use Rattle.act.specs.Turns.{jobBegun, begunActivity, activityAct, actOf}
 use Rattle.hosts.proofs.Keeps.{matched-keeps}
 use Rattle.hosts.proofs.Views.{View, Outside, seenIn, actIn}
-use Rattle.hosts.proofs.Phases.{stands, Passes, rests}
+use Rattle.hosts.proofs.Phases.{stands, PhasePasses, rests}
 use Rattle.hosts.proofs.Passing.{streamFrom, OnTrack, cell-at}
 use Rattle.hosts.proofs.Seeking.{Seeker, countedWith, SeeksIn}
 
@@ -74,7 +74,7 @@ module _ (o : Order) (s : Seen) (two : TypeTwo (jobOf (o .command))) (pulses : �
   matched-on :
       (matches good : Bool) (length : ℕ)
       → (matches && good) ≡ false
-      → Passes s
+      → PhasePasses s
       (cond matches
       (cond good (pass s (afterMatch length (jobOf (o .command))) (Matched false)) (pass s (afresh pulses) (Matched true)))
       (pass s (afresh pulses) Nothing))
@@ -87,7 +87,7 @@ module _ (o : Order) (s : Seen) (two : TypeTwo (jobOf (o .command))) (pulses : �
   hears-on :
       (heard : Heard)
       → hitIn o (s .tr) (s .sr) heard ≡ false
-      → Passes s (searchStep o s pulses heard) (Search pulses (scanPast heard))
+      → PhasePasses s (searchStep o s pulses heard) (Search pulses (scanPast heard))
   unfolding searchStep idFound scanPast hitIn suitsFor
   hears-on (On scan) e = rests s (pass s (Search pulses scan) Nothing) (Search pulses scan) refl
   hears-on (Whole id) e =

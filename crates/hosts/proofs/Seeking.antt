@@ -26,7 +26,7 @@ use Rattle.hosts.proofs.Firsts.{FirstOrNone, first}
 use Rattle.hosts.proofs.Keeps.{Keeps}
 use Rattle.hosts.proofs.Views.{View, Outside, seenIn, actIn}
 use Rattle.hosts.proofs.Courses.{Course, deskAt, besideAt, Lasts}
-use Rattle.hosts.proofs.Phases.{stands, Passes, PassesTo, Stands, stands-lasts, flags-on, passes-on, loses-on, lasts}
+use Rattle.hosts.proofs.Phases.{stands, PhasePasses, PassesTo, Stands, stands-lasts, flags-on, passes-on, loses-on, lasts}
 use Rattle.hosts.proofs.Settling.{settle-begins}
 use Rattle.hosts.proofs.Passing.{OnTrack, head-inside, pulsesFrom, pulses-on}
 use Rattle.command.specs.Commands.{jobOf}
@@ -162,7 +162,7 @@ module _ {Rows : List ℕ → Type 0} {c : Course Rows} {t : ℕ} {v : View} (s 
       rw (acts-as o k same)
       (subst
       (λ (pulses : ℕ).
-      Passes (seenIn (stands v k (v .missing) (seekAt k)) o)
+      PhasePasses (seenIn (stands v k (v .missing) (seekAt k)) o)
       (actIn (stands v k (v .missing) (x .doing (s .counted + pulsesFrom v k) k)) o)
       (x .doing pulses (suc k)))
       (counts k (omega arith))

@@ -50,13 +50,13 @@ early-at c t v {a = a} here busy rows two early =
     subst Silent (sym (deed-at c t v here busy rows)) (early-silent _ _ a two early)
 
 -- accepted, and not over with that
-pub record Given (s : Scene) (command : Command) : Type 0 where
+pub record TakenUp (s : Scene) (command : Command) : Type 0 where
   pub decodes : decodedOf (s .byte) ≡ Taken command
   pub works : classOf command ≡ Works
   pub accepted : loadRegister (s .machine) (s .lines) 0 (s .byte) .number ≡ 0
   pub stays : endsAtOnce command (s .lines) ≡ false
 
-module _ {s : Scene} {command : Command} (g : Given s command) where
+module _ {s : Scene} {command : Command} (g : TakenUp s command) where
   pub given-valid : Valid (s .machine)
   given-valid = accepted-valid (s .machine) (s .lines) (s .byte) (g .accepted)
 
@@ -74,14 +74,14 @@ pub record OverAt (s : Scene) (n : ℕ) (missing : Bool) : Type 0 where
 
 -- its byte times, over a row that is as long as the ring
 pub record Working (Rows : List ℕ → Type 0) (s : Scene) (command : Command) : Type 0 where
-  pub given : Given s command
+  pub given : TakenUp s command
   pub going : Going Rows (s .host) (loaded s)
   pub begin : going .within 0 ≡ true
   pub whole : length (s .row) ≡ s .machine .ring .length
   pub rows : Rows (s .row)
 
 -- over a row with no cell above 511, as long as no other command is accepted
-module _ {s : Scene} {command : Command} (g : Given s command) (alone : Undisturbed (s .host) (loaded s))
+module _ {s : Scene} {command : Command} (g : TakenUp s command) (alone : Undisturbed (s .host) (loaded s))
     (whole : length (s .row) ≡ s .machine .ring .length) (low : LowRow (s .row)) where
   pub low-working : Working LowRow s command
   low-working =
@@ -96,7 +96,7 @@ module _ {s : Scene} {command : Command} (g : Given s command) (alone : Undistur
       }
 
 -- ending by itself in byte time n, over any row
-module _ {s : Scene} {command : Command} (g : Given s command) (n : ℕ) (alone : AloneUntil (s .host) (loaded s) n)
+module _ {s : Scene} {command : Command} (g : TakenUp s command) (n : ℕ) (alone : AloneUntil (s .host) (loaded s) n)
     (ends : EndsAt (s .host) (loaded s) n) where
   given-some : 0 < n
   unfolding at busyIn

@@ -8,11 +8,11 @@ use Rattle.command.specs.declared.Command.the-variants.{ReadSector}
 use Rattle.accepting.specs.Accepting.{writes, heldBy}
 use Rattle.hosts.specs.Scenes.{Scene, settling}
 use Rattle.hosts.proofs.LowRows.{LowRow}
-use Rattle.hosts.proofs.Working.{Given, Working, low-working, Heads, headsOn, settling-lasts}
+use Rattle.hosts.proofs.Working.{TakenUp, Working, low-working, Heads, headsOn, settling-lasts}
 use Rattle.in_time.specs.Demand3.{InTimePremises}
 
 module _ (s : Scene) (asked : InTimePremises s) where
-  pub given : Given s ReadSector
+  pub given : TakenUp s ReadSector
   unfolding classOf heldBy writes
   given =
       record {

@@ -20,7 +20,7 @@ use Rattle.picture.proofs.Padding.{spare-clear, clear-spare}
 use Rattle.picture.proofs.Laws.{refused-leaves}
 use Rattle.safe.specs.Demand1.{InTurn}
 use Rattle.safe.specs.Pictures.{Form, flagsLast, IsKind, fm, mfm, kindByte, sideByte, flagBit, PaddingSet, readerOrder, Empty, NoKind, EndsEarly, NoRoom, Unsound, AtReader, empty, no-kind, ends-early, no-room, unsound, SafePicture}
-use Rattle.safe.proofs.Refusals.{first, nothing}
+use Rattle.safe.proofs.Refusals.{first-turn, nothing}
 
 -- ---- padding
 
@@ -108,7 +108,7 @@ module _ (bytes : List ℕ) (room : ℕ) where
 
   turn : (t : ℕ) → 0 < readerOrder t → AtReader bytes room t → ((s : ℕ) → AtReader bytes room s → t ≤ s)
       → Told (readerOrder t)
-  turn = first readerOrder (AtReader bytes room)
+  turn = first-turn readerOrder (AtReader bytes room)
 
   reader-rows : (P : ℕ → Type 0)
       → (Empty bytes → P 0)

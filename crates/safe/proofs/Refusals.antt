@@ -27,12 +27,12 @@ use Rattle.safe.specs.Demand1.{Between, OutOfRange, Invalid, position, r
 -- ---- in turn
 
 -- a turn that has its condition, and no earlier one has
-pub first : (numberAt : ℕ → ℕ) (Turn : ℕ → Type 0) (t : ℕ)
+pub first-turn : (numberAt : ℕ → ℕ) (Turn : ℕ → Type 0) (t : ℕ)
     → 0 < numberAt t
     → Turn t
     → ((s : ℕ) → Turn s → t ≤ s)
     → InTurn numberAt Turn (numberAt t)
-first numberAt Turn t some here least =
+first-turn numberAt Turn t some here least =
     record {
       exactly = λ k above. (
         λ e. (t, e, here, λ s low turn. let h = least s turn in omega arith),
@@ -53,7 +53,7 @@ nothing Turn none =
     }
 
 pub lowest : (Row : ℕ → Type 0) (n : ℕ) → 0 < n → Row n → ((j : ℕ) → Row j → n ≤ j) → Given Row n
-lowest = first (λ t. t)
+lowest = first-turn (λ t. t)
 
 -- the condition of the number that is given
 pub given-row : {Row : ℕ → Type 0} {number : ℕ} → Given Row number → (k : ℕ) → 0 < k → number ≡ k → Row k

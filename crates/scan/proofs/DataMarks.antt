@@ -31,11 +31,11 @@ past (Mark b) =
     by-cond (λ s. soughtPast s ≡ 0) (eqb b 0xFB) (λ e. refl)
     (λ e. by-cond (λ s. soughtPast s ≡ 0) (eqb b 0xF8) (λ f. refl) (λ f. refl))
 
-pub after : (mfm : Bool) (cells : ℕ → ℕ) (n : ℕ) → soughtAfter mfm cells n ≡ runAfter mfm cells n
+pub same-run : (mfm : Bool) (cells : ℕ → ℕ) (n : ℕ) → soughtAfter mfm cells n ≡ runAfter mfm cells n
 unfolding soughtAfter runAfter dataMarkStep
-after mfm cells zero = refl
-after mfm cells (suc n) =
-    ap (λ (run : ℕ). soughtPast (dataMarkIn (markStep mfm (cells n) run))) (after mfm cells n)
+same-run mfm cells zero = refl
+same-run mfm cells (suc n) =
+    ap (λ (run : ℕ). soughtPast (dataMarkIn (markStep mfm (cells n) run))) (same-run mfm cells n)
     ∙ past (passedAt mfm cells n)
 
 -- which byte it was
@@ -62,7 +62,7 @@ unfolding dataMarkStep dataMarkIn
 data-marks mfm cells n mark = (there, back)
   where
     same : soughtAt mfm cells n ≡ dataMarkIn (passedAt mfm cells n)
-    same = ap (λ (run : ℕ). dataMarkIn (markStep mfm (cells n) run)) (after mfm cells n)
+    same = ap (λ (run : ℕ). dataMarkIn (markStep mfm (cells n) run)) (same-run mfm cells n)
 
     by :
         (p : Passed)

@@ -113,11 +113,11 @@ run-after cells (suc n) =
     (run-step cells n (runAfter true cells n) (run-after cells n))
 
 -- what a mark's end asks of the cell and of those before it
-pub marked :
+pub mark-exactly :
     (mfm : Bool) (cell run b : ℕ)
     → (markStep mfm cell run ≡ Mark b) ↔ ((leadOf mfm ≤ run) × (carriesMark mfm cell ≡ true) × (byteOf cell ≡ b))
 unfolding markStep
-marked mfm cell run b = (
+mark-exactly mfm cell run b = (
   by-cond
       (λ p. p ≡ Mark b → (leadOf mfm ≤ run) × (carriesMark mfm cell ≡ true) × (byteOf cell ≡ b)) (leb (leadOf mfm) run && carriesMark mfm cell)
       (λ t e.
@@ -133,7 +133,7 @@ fm cells n b = (there, back)
   where
     there : passedAt false cells n ≡ Mark b → MarkEnds false cells n b
     there e =
-        let m = marked false (cells n) (runAfter false cells n) b .0 e in
+        let m = mark-exactly false (cells n) (runAfter false cells n) b .0 e in
         let q : cells n / 256 ≡ 1 = eqb-true _ _ (m .1) in
         let k : cells n % 256 ≡ b = m .2 in
         (n, add-zero n, (omega arith, omega arith))
@@ -142,7 +142,7 @@ fm cells n b = (there, back)
     back (a, p, (h, e)) =
         let q : a ≡ n = sym (add-zero a) ∙ p in
         let k : cells n ≡ b + 256 = ap cells (sym q) ∙ e in
-        marked false (cells n) (runAfter false cells n) b .1 (omega arith, eq-eqb (cells n / 256) 1 (omega arith), omega arith)
+        mark-exactly false (cells n) (runAfter false cells n) b .1 (omega arith, eq-eqb (cells n / 256) 1 (omega arith), omega arith)
 
 mfm : (cells : ℕ → ℕ) (n b : ℕ) → (passedAt true cells n ≡ Mark b) ↔ MarkEnds true cells n b
 unfolding MarkAt leadOf carriesMark
@@ -153,7 +153,7 @@ mfm cells n b = (there, back)
 
     there : passedAt true cells n ≡ Mark b → MarkEnds true cells n b
     there e =
-        let m = marked true (cells n) (runAfter true cells n) b .0 e in
+        let m = mark-exactly true (cells n) (runAfter true cells n) b .0 e in
         let r : runAfter true cells n ≡ 3 = omega (arith, v .most, m .0) in
         let p : v .a + 3 ≡ n = rw (sym r) (v .place) in
         let low : cells n < 256 = ltb-true _ _ (m .1) in
@@ -174,7 +174,7 @@ mfm cells n b = (there, back)
     back (a, p, (h, x, y, z, e)) =
         let k : cells n ≡ b = ap cells (sym p) ∙ e in
         let s : Syncs cells a 3 = three in
-        marked true (cells n) (runAfter true cells n) b .1
+        mark-exactly true (cells n) (runAfter true cells n) b .1
         (v .longest a 3 p (omega arith) s, lt-ltb (cells n) 256 (omega arith), omega arith)
       where
         three : Syncs cells a 3

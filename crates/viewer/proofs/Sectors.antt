@@ -27,7 +27,7 @@ use Rattle.fields.specs.declared.Found.{Found}
 use Rattle.fields.specs.declared.Found.the-variants as found
 use Rattle.fields.specs.declared.Behind.{Behind}
 use Rattle.fields.specs.declared.Behind.the-variants as behind
-use Rattle.fields.proofs.Ids.{next-id, no-id, apart}
+use Rattle.fields.proofs.Ids.{next-id, no-id, ids-apart}
 use Rattle.fields.proofs.DataMarks.{mark-behind}
 use Rattle.viewer.specs.declared.Span.{Span}
 use Rattle.viewer.specs.declared.Span.the-variants.{Nowhere, Cells}
@@ -196,7 +196,7 @@ module _ (mfm : Bool) (row : List ℕ) (track sector : ℕ) where
         where
           by : Dec (b < a) → Dec (a < b) → a + idWidth mfm ≤ b
           by (yes l) r = absurd (before b c d low l s)
-          by (no l) (yes r) = apart mfm (cellsOf row) a b (f .within .stands) (s .id) r
+          by (no l) (yes r) = ids-apart mfm (cellsOf row) a b (f .within .stands) (s .id) r
           by (no l) (no r) =
               let q : b ≡ a = omega arith in
               let e : here mfm row track sector a ≡ Cells c d = of-sector mfm row track sector a c d (rw q at s) in

@@ -4,7 +4,7 @@ use mathlib.Core.Path.{refl}
 use borrow.Author.Needs.{needs}
 use Rattle.command.specs.Commands.{classOf}
 use Rattle.command.specs.declared.Command.the-variants.{Restore, Seek, Step, StepIn, StepOut, ReadSector, WriteSector, ReadAddress, ReadTrack, WriteTrack}
-use Rattle.command.proofs.Arms.{commands}
+use Rattle.command.proofs.Arms.{command-arm}
 use Rattle.command.proofs.class_of.Statement.{statement}
 use Rattle.command.proofs.class_of.Tie as tie
 
@@ -13,19 +13,19 @@ enum-told c = search needs
 
 returns : tie.Need-returns
 unfolding classOf
-returns c = commands classOf (c .before .args .command) (Restore ∷ Seek ∷ []) refl (c .match .keys1)
+returns c = command-arm classOf (c .before .args .command) (Restore ∷ Seek ∷ []) refl (c .match .keys1)
 
 returns-2 : tie.Need-returns-2
 unfolding classOf
-returns-2 c = commands classOf (c .before .args .command) (Step ∷ StepIn ∷ StepOut ∷ []) refl (c .match .keys2)
+returns-2 c = command-arm classOf (c .before .args .command) (Step ∷ StepIn ∷ StepOut ∷ []) refl (c .match .keys2)
 
 returns-3 : tie.Need-returns-3
 unfolding classOf
-returns-3 c = commands classOf (c .before .args .command) (ReadSector ∷ WriteSector ∷ []) refl (c .match .keys3)
+returns-3 c = command-arm classOf (c .before .args .command) (ReadSector ∷ WriteSector ∷ []) refl (c .match .keys3)
 
 returns-4 : tie.Need-returns-4
 unfolding classOf
-returns-4 c = commands classOf (c .before .args .command) (ReadAddress ∷ ReadTrack ∷ WriteTrack ∷ []) refl (c .match .keys4)
+returns-4 c = command-arm classOf (c .before .args .command) (ReadAddress ∷ ReadTrack ∷ WriteTrack ∷ []) refl (c .match .keys4)
 
 returns-5 : tie.Need-returns-5
 unfolding classOf

@@ -4,7 +4,7 @@ use mathlib.Core.Path.{refl}
 use borrow.Author.Needs.{needs}
 use Rattle.command.specs.Orders.{inwardOf}
 use Rattle.command.specs.declared.Command.the-variants.{Restore, Seek, Step, ReadSector, WriteSector, ReadAddress, ReadTrack, WriteTrack, ForceInterrupt}
-use Rattle.command.proofs.Arms.{commands}
+use Rattle.command.proofs.Arms.{command-arm}
 use Rattle.command.proofs.inward.Statement.{statement}
 use Rattle.command.proofs.inward.Tie as tie
 
@@ -25,7 +25,7 @@ returns-2 c = simp (c .enum-told2 .given .1)
 returns-3 : tie.Need-returns-3
 unfolding inwardOf
 returns-3 c =
-    commands (λ command. inwardOf command (c .before .args .last)) (c .before .args .command)
+    command-arm (λ command. inwardOf command (c .before .args .last)) (c .before .args .command)
     (Restore ∷ Seek ∷ Step ∷ ReadSector ∷ WriteSector ∷ ReadAddress ∷ ReadTrack ∷ WriteTrack ∷ ForceInterrupt ∷ []) refl
     (c .match .keys3)
 

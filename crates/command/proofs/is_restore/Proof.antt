@@ -3,7 +3,7 @@ use Rattle.command.proofs.is_restore.Statement.{statement}
 use Rattle.command.specs.Commands.{isRestore}
 use mathlib.Core.List.{[], _∷_}
 use mathlib.Core.Path.{refl}
-use Rattle.command.proofs.Arms.{commands}
+use Rattle.command.proofs.Arms.{command-arm}
 use Rattle.command.specs.declared.Command.the-variants.{Seek, Step, StepIn, StepOut, ReadSector, WriteSector, ReadAddress, ReadTrack, WriteTrack, ForceInterrupt}
 use borrow.Author.Needs.{needs}
 use Rattle.command.proofs.is_restore.Tie as tie
@@ -18,7 +18,7 @@ returns c = simp (c .enum-told .given .1)
 returns-2 : tie.Need-returns-2
 unfolding isRestore
 returns-2 c =
-    commands isRestore (c .before .args .command)
+    command-arm isRestore (c .before .args .command)
     (Seek ∷ Step ∷ StepIn ∷ StepOut ∷ ReadSector ∷ WriteSector ∷ ReadAddress ∷ ReadTrack ∷ WriteTrack ∷ ForceInterrupt ∷ []) refl
     (c .match .keys2)
 

@@ -4,7 +4,7 @@ use mathlib.Core.Path.{refl}
 use borrow.Author.Needs.{needs}
 use Rattle.command.specs.Commands.{jobOf}
 use Rattle.command.specs.declared.Command.the-variants.{Restore, Seek, Step, StepIn, StepOut}
-use Rattle.command.proofs.Arms.{commands}
+use Rattle.command.proofs.Arms.{command-arm}
 use Rattle.command.proofs.job_of.Statement.{statement}
 use Rattle.command.proofs.job_of.Tie as tie
 
@@ -28,11 +28,11 @@ enum-told-6 c = search needs
 
 returns : tie.Need-returns
 unfolding jobOf
-returns c = commands jobOf (c .before .args .command) (Restore ∷ Seek ∷ []) refl (c .match .keys1)
+returns c = command-arm jobOf (c .before .args .command) (Restore ∷ Seek ∷ []) refl (c .match .keys1)
 
 returns-2 : tie.Need-returns-2
 unfolding jobOf
-returns-2 c = commands jobOf (c .before .args .command) (Step ∷ StepIn ∷ StepOut ∷ []) refl (c .match .keys2)
+returns-2 c = command-arm jobOf (c .before .args .command) (Step ∷ StepIn ∷ StepOut ∷ []) refl (c .match .keys2)
 
 returns-3 : tie.Need-returns-3
 unfolding jobOf
