@@ -2,11 +2,12 @@
 
 use crate::command::Command;
 use crate::density::Density;
+use crate::field;
 
 /// The longest wait of all: rate code 3, or settling, in MFM.
 const LONGEST_WAIT: u16 = 938;
 /// "The fifth ends the command", so no search that goes on has met more than four pulses.
-const MOST_PULSES: u8 = 4;
+pub const MOST_PULSES: u8 = 4;
 const LARGEST_SIZE: usize = 1024;
 /// The FF of an MFM record of 1,024 bytes stands at byte time 22 + 1,043 and ends the record.
 const LAST_BYTE_TIME: usize = 1064;
@@ -51,7 +52,7 @@ pub struct Settling {
 pub struct Search {
     pub command: Command,
     pub pulses: u8,
-    /// "Only cells passing after the search began count": these.
+    /// "Only cells passing after the search began count": the last of these, so many as an ID has.
     pub passed: Vec<u16>,
 }
 
@@ -103,6 +104,14 @@ impl Search {
             pulses: 0,
             passed: Vec::new(),
         }
+    }
+
+    /// One more cell has passed.
+    pub fn pass(&mut self, cell: u16, density: Density) {
+        if self.passed.len() == field::id_length(density) {
+            self.passed.remove(0);
+        }
+        self.passed.push(cell);
     }
 }
 

@@ -16,6 +16,7 @@ const MOST_CELLS: usize = 64;
 /// The largest value of the four drive lines.
 const ALL_LINES: u16 = 0xF;
 
+#[derive(Clone)]
 pub struct Bench {
     pub machine: Machine,
     pub lines: Lines,

@@ -21,7 +21,7 @@ pub enum Name {
 #[derive(Clone, Copy, Debug, PartialEq, Eq)]
 pub struct Command {
     pub name: Name,
-    byte: u8,
+    pub byte: u8,
 }
 
 impl Command {
@@ -50,6 +50,15 @@ impl Command {
 
     pub fn is_type_one(self) -> bool {
         self.byte < 0x80
+    }
+
+    pub fn forces(self) -> bool {
+        self.name == Name::ForceInterrupt
+    }
+
+    /// Types II and III.
+    pub fn is_transfer(self) -> bool {
+        !self.is_type_one() && !self.forces()
     }
 
     /// Restore and Seek go towards DR; the other Type I commands step once.

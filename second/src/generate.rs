@@ -1,17 +1,25 @@
 // Bench scripts made from a seed while the model runs, so that each line suits the machine.
 
+mod accepting;
+mod chaining;
 mod commands;
 mod edges;
+mod failing;
 mod forcing;
 mod formatting;
+mod fresh;
 mod line_ends;
+mod moving;
 mod refusing;
+mod searching;
 mod serving;
 mod settling;
 mod soaking;
 mod sparse;
 mod stretching;
 mod timing;
+mod track_ends;
+mod turns;
 mod viewing;
 
 use crate::bench::Bench;
@@ -28,6 +36,8 @@ const CELLS_PER_LINE: usize = 64;
 /// Equal cells from which on a line F is shorter than lines C.
 const FILL_FROM: usize = 16;
 const NO_LIMIT: usize = 0xFFFF;
+/// How long a script goes on at random at most, a last scene not counted.
+const MOST_LINES_AT_RANDOM: usize = 300;
 /// One seed in so many gives a script of long waits.
 const LONG_WAITS_ONE_IN: u64 = 6;
 
@@ -104,12 +114,12 @@ pub struct LongScript {
 /// The script of a seed.
 pub fn script(seed: u64) -> String {
     let mut generator = Generator::new(seed, Bench::new());
-    let enough = generator.random.between(300, 2000);
     generator.begin();
     generator.take_turns(seed);
     if has_long_waits(seed) {
         generator.stretch();
     } else {
+        let enough = generator.line_count + generator.random.between(0, MOST_LINES_AT_RANDOM);
         while generator.line_count < enough {
             generator.scene();
         }
@@ -167,20 +177,6 @@ impl Generator {
         }
     }
 
-    /// What some hundred seeds in a row must meet completely: each Type I command, each sector
-    /// command, each length read and written, each byte that is no command, and each Force
-    /// Interrupt in each activity.
-    fn take_turns(&mut self, seed: u64) {
-        let no_commands = refusing::no_commands();
-        self.load(0, in_turn(&no_commands, seed));
-        let type_one: Vec<u8> = (0x00..0x80).collect();
-        self.stepping_scene(in_turn(&type_one, seed));
-        let sector_commands = commands::sector_commands();
-        self.sector_scene(in_turn(&sector_commands, seed));
-        self.record_scene(in_turn(&timing::RECORDS, seed));
-        self.forcing_scene(in_turn(&forcing::pairs(), seed));
-    }
-
     fn scene(&mut self) {
         match self.random.below(30) {
             0..=3 => {
@@ -201,7 +197,10 @@ impl Generator {
             20 => self.waiting_scene(),
             21..=22 => self.refusing_scene(),
             23 => self.viewing_scene(),
-            24..=26 => self.beginning_scene(),
+            24..=26 => {
+                let byte = self.random.pick(&timing::BEGINNINGS);
+                self.beginning_scene(byte);
+            }
             27 => self.chain_scene(),
             28 => self.late_write_scene(),
             _ if self.random.one_in(4) => self.power_on(),
@@ -286,6 +285,11 @@ impl Generator {
         }
     }
 
+    /// Sets the head's place while a command goes on.
+    fn move_head(&mut self, position: usize) {
+        self.say(format!("X {:X}", position));
+    }
+
     /// A place for the head before the next command: where it is, near the index, or anywhere.
     fn choose_head(&mut self) {
         let length = self.plan.length;
@@ -304,6 +308,7 @@ impl Generator {
 
     /// A new machine with a new track; at times a refused length comes first.
     fn power_on(&mut self) {
+        self.leave_traces();
         let density = self.random.pick(&[Density::Fm, Density::Mfm]);
         let letter = u8::from(density == Density::Mfm);
         if self.random.one_in(3) {
@@ -325,6 +330,7 @@ impl Generator {
             bad_ids: self.random.pick(&[8, 8, 8, 2, 1]),
         };
         self.say(format!("P {} {:X}", letter, length));
+        self.look_at_fresh();
         self.lay_random_track();
     }
 
@@ -366,19 +372,30 @@ impl Generator {
     /// Lays a sector with a good ID and a good data CRC from a place on.
     fn lay_sector(&mut self, place: usize, sector: Sector) {
         let cells = self.sector_cells(sector);
+        self.lay_cells(place, &cells);
+    }
+
+    /// Lays cells from a place on, round the ring.
+    fn lay_cells(&mut self, place: usize, cells: &[u16]) {
         let mut laid = self.bench.current.clone();
-        layout::put(&mut laid, place, &cells);
+        layout::put(&mut laid, place, cells);
         self.lay(&laid);
     }
 
+    /// Only the two low bits of the length count, and a flag on a data cell does not.
     fn sector_cells(&mut self, sector: Sector) -> Vec<u16> {
         let density = self.plan.density;
-        let bytes = [self.plan.track, 0, sector.number, sector.code];
+        let length = sector.code + self.random.pick(&[0, 0, 0x54, 0xFC]);
         let data = self.random.bytes(128 << sector.code);
+        let bytes = [self.plan.track, 0, sector.number, length];
         let mut cells = layout::id_cells(density, bytes);
         let gap = sector.mark_at - field::mark_length(density);
         cells.resize(cells.len() + gap, layout::gap(density));
-        cells.extend(layout::field_cells(density, sector.mark, &data));
+        let mut field = layout::field_cells(density, sector.mark, &data);
+        if self.random.one_in(3) {
+            field[field::mark_length(density) + self.random.below(128)] += FLAG;
+        }
+        cells.extend(field);
         cells
     }
 
@@ -402,9 +419,4 @@ impl Generator {
     fn flagged(&mut self) -> u16 {
         FLAG + u16::from(self.random.byte())
     }
-}
-
-/// The seed's choice: seeds in a row go through all of them.
-fn in_turn<T: Copy>(choices: &[T], seed: u64) -> T {
-    choices[(seed % choices.len() as u64) as usize]
 }

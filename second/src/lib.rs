@@ -4,7 +4,8 @@
 // `writing`); it decides what passes by looking back at lists of cells (`field`). `bench` works it
 // from a script, which comes in by a `session`; `generate` makes scripts from seeds, `compare` holds
 // another program to the bench, `soak` does so until millions of byte times have passed, and `talk`
-// awaits an answer to what it has typed.
+// awaits an answer to what it has typed. `coverage` counts the scripts that would tell a machine
+// which gets a sentence of document 01 wrong.
 // `picture`, `viewer` and `list` are document 01's pictures and viewer, `vectors` its CRC vectors.
 
 #![forbid(unsafe_code)]
@@ -13,6 +14,7 @@ pub mod activity;
 pub mod bench;
 pub mod command;
 pub mod compare;
+pub mod coverage;
 pub mod crc;
 pub mod density;
 pub mod field;

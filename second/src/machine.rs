@@ -3,7 +3,7 @@
 use std::mem;
 
 use crate::activity::Activity;
-use crate::command::{Command, Conditions, Name};
+use crate::command::{Command, Conditions};
 use crate::density::Density;
 use crate::field::LARGEST_CELL;
 use crate::lines::Lines;
@@ -237,7 +237,7 @@ impl Machine {
     fn accept(&mut self, command: Command, lines: Lines) {
         self.interrupt_request = false;
         self.conditions = Conditions::default();
-        if command.name == Name::ForceInterrupt {
+        if command.forces() {
             self.force_interrupt(command);
             return;
         }
@@ -272,7 +272,8 @@ impl Machine {
         };
         let mut machine = self;
         let pulse = if number == number::DONE {
-            machine.pass_cell(track, lines)
+            let cell = &mut track[usize::from(machine.position)];
+            machine.pass_cell(cell, lines)
         } else {
             None
         };
@@ -294,13 +295,14 @@ impl Machine {
         }
     }
 
-    fn pass_cell(&mut self, track: &mut [u16], lines: Lines) -> Option<Direction> {
+    /// A byte time that nothing refuses, over the cell under the head.
+    pub(crate) fn pass_cell(&mut self, cell: &mut u16, lines: Lines) -> Option<Direction> {
         let index = self.position == 0;
         self.look_at_conditions(index, lines.ready);
         self.index_seen = index;
         self.ready_seen = lines.ready;
         let mut now = ByteTime {
-            cell: &mut track[usize::from(self.position)],
+            cell,
             index,
             lines,
             pulse: None,

@@ -59,7 +59,7 @@ impl Machine {
             self.status.not_found = true;
             return self.end();
         }
-        search.passed.push(*now.cell);
+        search.pass(*now.cell, self.density);
         if search.command.name == Name::ReadAddress {
             return self.look_for_id_mark(search);
         }

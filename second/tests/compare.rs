@@ -52,7 +52,7 @@ fn the_program_finds_the_model_equal_to_itself() {
 fn the_program_counts_differences_and_fails() {
     let output = run(COMPARE, env!("CARGO_BIN_EXE_vectors"));
     let text = String::from_utf8_lossy(&output.stdout).to_string();
-    assert!(text.starts_with("seed 10: output line 1 differs\n  asked by: script line 1: P "));
+    assert!(text.starts_with("seed 10: output line 1 differs\n  asked by: script line 1: W "));
     assert!(text.ends_with("4 scripts, 4 differences\n"));
     assert_eq!(output.status.code(), Some(1));
 }

@@ -187,7 +187,7 @@ module _ (s : Scene) (s0 s1 : List ℕ) (from to : ℕ) (viewed : Viewed s s0 s1
       record {
         track = its .is .is .of-track;
         sector = its .is .is .of-sector;
-        side = λ only asks. viewed .side only asks (its .p) (its .is);
+        side = λ asks. viewed .side asks (its .p) (its .is);
         good = its .is .is .good;
       }
 

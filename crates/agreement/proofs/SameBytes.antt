@@ -99,7 +99,7 @@ unfolding bitOf settlesFirst isMultiple verifiesTrack sideOf sideAsked markWritt
 viewed =
     record {
       finds = on-side-0 refl finds;
-      side = λ only asks. never (cc);
+      side = λ asks. never (cc);
       only = λ a b. at-zero a ∙ sym (at-zero b);
     }
 

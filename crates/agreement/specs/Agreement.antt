@@ -1,15 +1,15 @@
 -- The viewer and the machine agree: the premises under which a Read Sector hands over the bytes that the viewer shows, and the
 -- conclusion. Assumes nothing.
 use mathlib.Core.Path.{_≡_}
-use mathlib.Core.Bool.{true, false, not}
+use mathlib.Core.Bool.{true, false, cond, not}
 use mathlib.Core.List.{List, map}
 use Prim.Native.Nat.{ℕ, suc, _+_, _-_, _≤_, _<_}
 use lib.Dec.{eqb}
 use lib.ListN.{getD}
 use Rattle.scan.specs.Marks.{byteOf}
 use Rattle.scan.specs.Streams.{idFrom}
-use Rattle.command.specs.Bits.{isMultiple, sideAsked}
-use Rattle.command.specs.declared.SideAsked.the-variants.{Only}
+use Rattle.common.specs.Bits.{bitOf}
+use Rattle.command.specs.Bits.{isMultiple}
 use Rattle.command.specs.Commands.{decodedOf}
 use Rattle.command.specs.declared.Command.the-variants.{ReadSector}
 use Rattle.command.specs.declared.Decoded.the-variants.{Taken}
@@ -62,11 +62,10 @@ pub data Finds (s : Scene) (s0 s1 : List ℕ) (from to : ℕ) : Type 0 where
 pub record Viewed (s : Scene) (s0 s1 : List ℕ) (from to : ℕ) : Type 0 where
   pub finds : Finds s s0 s1 from to
   -- with C the sector's side is S: the viewer compares no side, so it is asked of the ID that it found, from cell p on
-  pub side : (only : ℕ)
-      → sideAsked (s .byte) ≡ Only only
+  pub side : bitOf (s .byte) 1 ≡ true
       → (p : ℕ)
       → FirstSector (s .machine .mfm) (s .row) (s .machine .regs .tr) (s .machine .regs .sr) p from to
-      → idFrom (s .machine .mfm) (cellsOf (s .row)) p .side ≡ only
+      → idFrom (s .machine .mfm) (cellsOf (s .row)) p .side ≡ cond (bitOf (s .byte) 3) 1 0
   -- the only one of its track and sector: no two IDs on the whole ring, over its end or not, match with a good CRC. One
   -- with a bad CRC does not count, nor, with C, one of the other side.
   pub only : (a b : OnRing s) → a .cell ≡ b .cell

@@ -1,6 +1,6 @@
 -- Every command ends: what holds of each after its acceptance. Assumes nothing.
 use mathlib.Core.Path.{_≡_, sym, subst}
-use Prim.Native.Nat.{ℕ, _<_}
+use Prim.Native.Nat.{_<_}
 use native.Mathlib.Omega.{arith}
 use Rattle.common.proofs.Cases.{by-cond}
 use Rattle.command.specs.declared.Command.{Command}
@@ -9,9 +9,7 @@ use Rattle.accepting.specs.Accepting.{beginRegs}
 use Rattle.wd.specs.declared.Machine.{Machine}
 use Rattle.wd.specs.Loads.{commandBegun}
 use Rattle.reachable.proofs.Valid.{Valid, load-valid}
-use Rattle.hosts.specs.Hosts.{at}
 use Rattle.hosts.specs.Scenes.{Scene, loaded}
-use Rattle.hosts.proofs.Views.{at-valid}
 use Rattle.hosts.proofs.Accepted.{accepted-valid, accepted-machine}
 use Rattle.ends.specs.Ends.{EndPremises}
 use Rattle.ends.proofs.Drains.{Led}
@@ -43,6 +41,3 @@ module _ {s : Scene} {command : Command} (asked : EndPremises s command) where
         hlt = asked .hlt;
         dr = subst (λ (m : Machine). m .regs .dr < 256) (sym started) (begun-low .1);
       }
-
-  pub still-valid : (n : ℕ) → Valid (at (s .host) (loaded s) n .machine)
-  still-valid = at-valid (s .host) (loaded s) (asked .alone) (led .valid)

@@ -10,8 +10,8 @@ use Rattle.registers.specs.declared.Regs.{Regs}
 use Rattle.effects.proofs.Apart.{regsAfter}
 use Rattle.wd.proofs.Valid.{valid-ring, next-length}
 use Rattle.reachable.proofs.Valid.{Valid}
-use Rattle.hosts.specs.Hosts.{Host, Desk, servedAt, at, Alone, EndsAt, BusyAt}
-use Rattle.hosts.proofs.Views.{View, viewOf, Outside, outsideAt, actIn, stepOf, DoneAt, next-view, at-valid, done-at}
+use Rattle.hosts.specs.Hosts.{Host, Desk, servedAt, at, BusyAt, Undisturbed, EndsAt}
+use Rattle.hosts.proofs.Views.{View, viewOf, Outside, outsideAt, actIn, stepOf, Calm, calm-view, stays-valid, done-under}
 use Rattle.hosts.proofs.ByteTimes.{regs-view}
 use Rattle.hosts.proofs.DrByte.{found-byte}
 use Rattle.hosts.proofs.LowRows.{LowRow, set-low}
@@ -55,16 +55,16 @@ module _ (h : Host) (d : Desk) where
   pub over-ends : {last : ℕ} → Over 0 last → (n : ℕ) × EndsAt h d n × (n ≤ last)
   over-ends o = (o .end, record { busy = λ k l. o .busy k (omega arith) l; over = o .over }, o .soon)
 
--- a command under a host that gives no other and keeps HLT on
+-- a command under a host that gives no other and keeps HLT on while it is under way
 pub record Led (h : Host) (d : Desk) : Type 0 where
-  pub alone : Alone h d
+  pub alone : Undisturbed h d
   pub valid : Valid (d .machine)
-  pub hlt : (n : ℕ) → h .lines n .hlt ≡ true
+  pub hlt : (n : ℕ) → BusyAt h d n → h .lines n .hlt ≡ true
   pub dr : d .machine .regs .dr < 256
 
--- one that leaves DR alone
+-- one that leaves DR alone meanwhile
 abbrev pub Steady : Host → Desk → Type 0
-Steady h d = (n : ℕ) → servedAt h n (at h d n) .machine .regs .dr ≡ at h d n .machine .regs .dr
+Steady h d = (n : ℕ) → BusyAt h d n → servedAt h n (at h d n) .machine .regs .dr ≡ at h d n .machine .regs .dr
 
 module _ (h : Host) (d : Desk) (led : Led h d) (target : ℕ) where
   -- what holds after t byte times
@@ -80,7 +80,7 @@ module _ (h : Host) (d : Desk) (led : Led h d) (target : ℕ) where
   leftIn v = leftOf (v .order) (v .mfm) target (v .ring) (v .tr) (v .activity)
 
   still-valid : (t : ℕ) → Valid (at h d t .machine)
-  still-valid = at-valid h d (led .alone) (led .valid)
+  still-valid = stays-valid h d (led .valid)
 
   module _ (t : ℕ) (sound : Sound t) (busy : BusyAt h d t) where
     abbrev v : View
@@ -94,8 +94,10 @@ module _ (h : Host) (d : Desk) (led : Led h d) (target : ℕ) where
         sound .low (v .ring .position)
         (omega (arith, sound .whole, valid-ring (at h d t .machine) (still-valid t) .inside))
 
-    done : DoneAt h d t
-    done = done-at h d (led .alone) t (still-valid t) (sound .whole) under-low
+    calm : Calm h d t
+    calm =
+        let quiet = led .alone t busy in
+        record { quiet = quiet; done = done-under h d t quiet (still-valid t) (sound .whole) under-low }
 
     abbrev moment : Moment
     moment =
@@ -107,20 +109,20 @@ module _ (h : Host) (d : Desk) (led : Led h d) (target : ℕ) where
           inside = held .inside;
           long = held .least;
           low = under-low;
-          hlt = led .hlt t;
-          dr = found-byte h d (led .alone) (led .dr) t;
+          hlt = led .hlt t busy;
+          dr = found-byte h d (led .dr) t;
         }
 
     good : Good moment (leftIn v) (actIn v o)
     good =
         acts moment (v .activity) busy (sound .counted)
-        (λ e. let aim = sound .aims e in (e, aim .0 t ∙ aim .1, aim .2))
+        (λ e. let aim = sound .aims e in (e, aim .0 t busy ∙ aim .1, aim .2))
 
     steps : viewOf (at h d (suc t)) ≡ stepOf v o
-    steps = next-view h d (led .alone) t busy done
+    steps = calm-view h d calm busy
 
     leaves : at h d (suc t) .machine .regs ≡ regsAfter (record { tr = v .tr; sr = v .sr; dr = o .dr }) (actIn v o .deed)
-    leaves = regs-view h d (led .alone) t done busy
+    leaves = regs-view h d t calm busy
 
     next-falls : leftIn (viewOf (at h d (suc t))) < leftIn v
     unfolding stepOf

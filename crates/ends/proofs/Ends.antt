@@ -75,5 +75,5 @@ ends s command asked keeps =
       n,
       ending,
       soon,
-      λ other. ends-told s command (asked .decodes) other (asked .accepted) n (λ k l. asked .alone k) ending,
+      λ other. ends-told s command (asked .decodes) other (asked .accepted) n (λ k l. asked .alone k (ending .busy k l)) ending,
     )

@@ -37,7 +37,7 @@ use Rattle.ends.proofs.Drains.{Over, later, drains-from}
 use Rattle.ends.proofs.Hunting.{markSeeker, mark-seeks, marks-soon}
 use Rattle.ends.proofs.FiveRounds.{Short, five-rounds}
 use Rattle.ends.proofs.Begun.{led}
-use Rattle.ends.proofs.Settled.{Stays, lowWorking, lowHeads, settled-over}
+use Rattle.ends.proofs.Settled.{Stays, lowWorking, settled-hlt, lowHeads, settled-over}
 use Rattle.activity.specs.declared.Seen.{Seen}
 
 -- what a Read Sector and a Write Sector take after the ID
@@ -148,7 +148,7 @@ module _ {s : Scene} {command : Command} (x : Stays s command) where
           counted = 0;
           few = omega arith;
           first = activity.Settle 0;
-          entry = settled (x .asked .hlt (settling s)) hunt-begins hunt-goes-on;
+          entry = settled (settled-hlt x) hunt-begins hunt-goes-on;
           begins = begins (lowWorking x) (lowHeads x);
         }
 

@@ -33,11 +33,14 @@ pub record Stays (s : Scene) (command : Command) : Type 0 where
 
 module _ {s : Scene} {command : Command} (x : Stays s command) where
   abbrev pub lowWorking : Working LowRow s command
-  lowWorking = low-working (x .given) (λ n busy. x .asked .alone n) (x .asked .whole) (x .asked .low)
+  lowWorking = low-working (x .given) (x .asked .alone) (x .asked .whole) (x .asked .low)
 
   -- HLT is on as soon as it has settled
+  pub settled-hlt : s .host .lines (settling s) .hlt ≡ true
+  settled-hlt = x .asked .hlt (settling s) (settling-lasts lowWorking (settling s) (omega arith) .busy)
+
   abbrev pub lowHeads : Heads lowWorking
-  lowHeads = headsOn lowWorking (x .asked .hlt (settling s))
+  lowHeads = headsOn lowWorking settled-hlt
 
   -- what begins after it
   pub settled-over : (last : ℕ) → Over (s .host) (loaded s) (settling s) last → Over (s .host) (loaded s) 0 last

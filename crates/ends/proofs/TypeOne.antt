@@ -19,7 +19,7 @@ use Rattle.registers.specs.declared.Regs.{Regs}
 use Rattle.accepting.specs.Accepting.{endsAtOnce, beginRegs, beginActivity}
 use Rattle.wd.specs.declared.Machine.{Machine}
 use Rattle.wd.specs.Loads.{commandBegun}
-use Rattle.hosts.specs.Hosts.{Host, Desk, servedAt, at, Alone}
+use Rattle.hosts.specs.Hosts.{Host, Desk, servedAt, at, BusyAt, Undisturbed}
 use Rattle.hosts.specs.Scenes.{Scene, loaded}
 use Rattle.hosts.proofs.Views.{View, viewOf}
 use Rattle.hosts.proofs.Accepted.{no-other-restores}
@@ -97,12 +97,15 @@ module _ {s : Scene} {command : Command} (asked : EndPremises s command) where
   unfolding commandBegun orderOf beginActivity leftOf Counted seeks
   steps-over class verifies = typed-over _ Steps class verifies (λ on. never (cc)) (omega (arith, verify-most))
 
--- a host that loads no DR
-pub steady-by : (s : Scene) → Alone (s .host) (loaded s) → ((n : ℕ) → leavesDr (s .host .calls n) ≡ true)
+-- a host that loads no DR meanwhile
+pub steady-by :
+    (s : Scene)
+    → Undisturbed (s .host) (loaded s)
+    → ((n : ℕ) → BusyAt (s .host) (loaded s) n → leavesDr (s .host .calls n) ≡ true)
     → Steady (s .host) (loaded s)
 unfolding servedAt
-steady-by s alone leaves n =
-    calls-steady (at (s .host) (loaded s) n .machine) (s .host .calls n) (alone n) (leaves n)
+steady-by s alone leaves n busy =
+    calls-steady (at (s .host) (loaded s) n .machine) (s .host .calls n) (alone n busy) (leaves n busy)
 
 -- ---- how many steps
 

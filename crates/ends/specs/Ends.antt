@@ -15,24 +15,24 @@ use Rattle.command.specs.declared.Command.the-variants.{Restore, Seek, Step, St
 use Rattle.command.specs.declared.Decoded.the-variants.{Taken}
 use Rattle.accepting.specs.Accepting.{endsAtOnce}
 use Rattle.wd.specs.Loads.{loadRegister}
-use Rattle.hosts.specs.Hosts.{Call, loads, reads, at, Alone, EndsAt}
+use Rattle.hosts.specs.Hosts.{Call, loads, reads, at, BusyAt, Undisturbed, EndsAt}
 use Rattle.hosts.specs.Scenes.{Scene, loaded, settling}
 
 -- ---- premises
 
 -- Of Ready, protect and track 0 nothing is asked in any byte time, and nothing of the calls in between but that none of them
--- is an accepted command.
+-- is an accepted command; when it is over the host does as it likes.
 pub record EndPremises (s : Scene) (command : Command) : Type 0 where
   -- every accepted command
   pub decodes : decodedOf (s .byte) ≡ Taken command
   pub accepted : loadRegister (s .machine) (s .lines) 0 (s .byte) .number ≡ 0
   -- "without m", the bit of Type II
   pub single : (command ≡ ReadSector) ⊎ (command ≡ WriteSector) → isMultiple (s .byte) ≡ false
-  -- "HLT on throughout"
-  pub hlt : (n : ℕ) → s .host .lines n .hlt ≡ true
+  -- "the head-load line on throughout"
+  pub hlt : (n : ℕ) → BusyAt (s .host) (loaded s) n → s .host .lines n .hlt ≡ true
   -- "no other command accepted"
-  pub alone : Alone (s .host) (loaded s)
-  -- "the same track of L cells (none above 511) lent each byte time"
+  pub alone : Undisturbed (s .host) (loaded s)
+  -- "the same track of L cells, none above 511, lent each byte time"
   pub whole : length (s .row) ≡ s .machine .ring .length
   pub low : (i : ℕ) → i < length (s .row) → getD (s .row) i 0 ≤ 511
   -- a byte in TR and in DR, as their types say
@@ -49,7 +49,7 @@ leavesDr (reads l number ∷ cs) = leavesDr cs
 -- keep a Seek or a Restore stepping. So these two alone have the premise that no call on the way loads DR.
 abbrev pub KeepsTarget : Scene → Command → Type 0
 KeepsTarget s command =
-    (command ≡ Restore) ⊎ (command ≡ Seek) → (n : ℕ) → leavesDr (s .host .calls n) ≡ true
+    (command ≡ Restore) ⊎ (command ≡ Seek) → (n : ℕ) → BusyAt (s .host) (loaded s) n → leavesDr (s .host .calls n) ≡ true
 
 -- ---- within how many byte times
 

@@ -4,7 +4,6 @@ use Prim.Native.Nat.{ℕ, _+_, _<_}
 use native.Mathlib.Omega.{arith}
 use lib.ListN.{length}
 use Rattle.common.proofs.Cases.{never}
-use Rattle.scan.specs.declared.DataMark.{DataMark}
 use Rattle.scan.specs.Streams.{idFrom}
 use Rattle.command.specs.Orders.{orderOf}
 use Rattle.command.specs.Sizes.{sizeOf}
@@ -42,18 +41,8 @@ module _ (s : Session) (p : ℕ) (a : FewerPremises s p) where
   written = write.written s k
 
   -- the Read Sector, and the field that it meets
-  abbrev dataMark : DataMark
-  dataMark = written .data-mark
-
   abbrev meets : Meets (readScene s) (s .read)
-  meets =
-      record {
-        reads = read.reading s p a;
-        found = read.found s p a;
-        mark = dataMark;
-        place = mark;
-        field = read.reads-field s p a;
-      }
+  meets = read.meets s p a
 
   -- the byte time after the mark's byte
   abbrev from : ℕ
@@ -138,6 +127,15 @@ module _ (s : Session) (p : ℕ) (a : FewerPremises s p) where
         status = λ l. status.told meets l;
       }
 
+-- an ID that the command goes by is one of that track and sector
+pub fewer : (s : Session) (p : ℕ) → ReadBackPremises s p → FewerPremises s p
+fewer s p asked =
+    record {
+      commands = asked .commands;
+      one-match = λ q inside stands suits. asked .just-one .only q inside stands (suits .track) (suits .sector);
+      no-mark = asked .no-mark;
+    }
+
 -- where just one ID is such that the command goes by it
 pub reads-back : (s : Session) (p : ℕ) → FewerPremises s p → ReadsBack s p
 reads-back = read-back
@@ -147,10 +145,4 @@ reads-back = read-back
 -- ready and ending by itself, where one track is lent throughout, changed by nothing but these two commands, and holds just
 -- one ID of that track and sector, with no mark in the 11 (FM) or 22 (MFM) cells after it."
 pub demand-2 : (s : Session) (p : ℕ) → ReadBackPremises s p → ReadsBack s p
-demand-2 s p asked =
-    reads-back s p
-    (record {
-      commands = asked .commands;
-      one-match = λ q inside stands suits. asked .just-one .only q inside stands (suits .track) (suits .sector);
-      no-mark = asked .no-mark;
-    })
+demand-2 s p asked = reads-back s p (fewer s p asked)

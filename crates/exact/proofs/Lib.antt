@@ -1,8 +1,9 @@
--- Demand 2, and the lemmas that it stands on.
+-- Demand 2, a Write Sector that nobody serves, and the lemmas that they stand on.
 pub mod RoundPlaces
 pub mod SectorField
 pub mod OneMark
 pub mod OldIds
+pub mod WriteActs
 pub mod WriteStages
 pub mod WrittenField
 pub mod WrittenTrack
@@ -10,3 +11,6 @@ pub mod WriteSession
 pub mod NextCommand
 pub mod ReadSession
 pub mod Demand2
+pub mod ByItself
+pub mod WriteCourse
+pub mod LateWrite

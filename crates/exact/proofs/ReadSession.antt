@@ -22,10 +22,10 @@ use Rattle.hosts.proofs.Views.{View}
 use Rattle.hosts.proofs.Idling.{same-density, left-row}
 use Rattle.hosts.specs.Scenes.{Suits}
 use Rattle.hosts.proofs.Searching.{reads-two}
-use Rattle.hosts.proofs.RingIds.{IdOnRing}
+use Rattle.hosts.proofs.RingIds.{same-side-suits, IdOnRing}
 use Rattle.hosts.proofs.Working.{TakenUp, given-view}
 use Rattle.hosts.proofs.Found.{Lost, searched, lost-none, foundPlace, foundSize, found-on, found-cells}
-use Rattle.hosts.proofs.ReadThrough.{FieldIn, EndedRead, working, heads, FoundId, cellsOn}
+use Rattle.hosts.proofs.ReadThrough.{FieldIn, EndedRead, working, heads, FoundId, cellsOn, Meets}
 use Rattle.exact.specs.Demand2.{Session, begun, asked, writeScene, readScene, Commands, FewerPremises, clearCells}
 use Rattle.exact.proofs.SectorField.{Field}
 use Rattle.exact.proofs.OneMark.{Behind}
@@ -104,7 +104,7 @@ module _ (s : Session) (p : ℕ) (a : FewerPremises s p) where
       record {
         track = e .track ∙ sym (k .same-tr);
         sector = e .sector ∙ sym (k .same-sr);
-        side = λ only asks. e .side only (sym (k .same-side) ∙ asks);
+        side = same-side-suits (s .byte) (s .byte-then) (id .side) (k .same-side) (e .side);
         good = e .good;
       }
 
@@ -113,7 +113,7 @@ module _ (s : Session) (p : ℕ) (a : FewerPremises s p) where
       record {
         track = e .track ∙ k .same-tr;
         sector = e .sector ∙ k .same-sr;
-        side = λ only asks. e .side only (k .same-side ∙ asks);
+        side = same-side-suits (s .byte-then) (s .byte) (id .side) (sym (k .same-side)) (e .side);
         good = e .good;
       }
 
@@ -195,6 +195,17 @@ module _ (s : Session) (p : ℕ) (a : FewerPremises s p) where
       (write.written s k .data-mark) (markPlace (s .machine .mfm))
   reads-field =
       field-read field (cellsOn reading found) passes (asked s .machine .mfm) _ same-mfm same-size
+
+  -- all of that
+  abbrev pub meets : Meets (readScene s) (s .read)
+  meets =
+      record {
+        reads = reading;
+        found = found;
+        mark = write.written s k .data-mark;
+        place = markPlace (s .machine .mfm);
+        field = reads-field;
+      }
 
   -- the cell that is j cells after the ID
   pub same-cell :

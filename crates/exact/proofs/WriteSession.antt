@@ -1,15 +1,14 @@
 -- The Write Sector of demand 2, whole: the ID that it went by, the track that it left, and the bytes that it took.
 -- Assumes nothing.
-use mathlib.Core.Path.{_≡_, refl, sym, ap, _∙_, subst}
+use mathlib.Core.Path.{_≡_, refl, sym, ap, _∙_}
 use mathlib.Core.Bool.{Bool, true, false, true≢false}
 use mathlib.Core.Logic.{_⊎_, inl, inr}
 use Prim.Native.Nat.{ℕ, suc, _+_, _-_, _%_, _≤_, _<_}
 use native.Mathlib.Nat.{mod-lt}
 use native.Mathlib.Decide.{decLt, ℕ-discrete}
 use native.Mathlib.Omega.{arith}
-use lib.Dec.{eqb}
 use lib.ListN.{length}
-use Rattle.common.proofs.Cases.{by-cond, never}
+use Rattle.common.proofs.Cases.{never}
 use Rattle.scan.specs.Streams.{idWidth}
 use Rattle.command.specs.Commands.{classOf, jobOf}
 use Rattle.command.specs.Orders.{orderOf}
@@ -26,22 +25,20 @@ use Rattle.fields.specs.Rings.{cellsOf}
 use Rattle.wd.proofs.Valid.{Held}
 use Rattle.reachable.specs.ByteTimes.{turnsOn}
 use Rattle.reachable.proofs.Counts.{turns-position}
-use Rattle.hosts.specs.Hosts.{Desk, servedAt, at, AloneUntil}
+use Rattle.hosts.specs.Hosts.{servedAt, at, AloneUntil}
 use Rattle.hosts.specs.Bytes.{deedAt, takes, taken}
 use Rattle.hosts.proofs.RingLaws.{turns-length, turns-add}
 use Rattle.hosts.proofs.Accepted.{given-flags, given-dr}
-use Rattle.hosts.proofs.Views.{View, Calm}
+use Rattle.hosts.proofs.Views.{View}
 use Rattle.hosts.proofs.ByteTimes.{kind-later}
-use Rattle.hosts.proofs.Courses.{AnyRow, ends-once, ended-calm}
+use Rattle.hosts.proofs.Courses.{AnyRow, ends-once}
 use Rattle.hosts.proofs.Phases.{stands, from-there}
 use Rattle.hosts.proofs.Passing.{OnTrack, on-track}
 use Rattle.hosts.proofs.Searching.{writes-two}
 use Rattle.hosts.proofs.RingIds.{IdOnRing}
 use Rattle.hosts.proofs.Working.{TakenUp, given-ring, Working, ended-working, ended-upto, courseOf, Heads, heads-by, beginning, beginning-track}
 use Rattle.hosts.proofs.Found.{Found, Lost, searched, lost-over, foundTime, foundPlace, foundSize, found-on, found-view, found-place, found-silent}
-use Rattle.hosts.proofs.CutHosts.{until, served-same, until-alone}
 use Rattle.hosts.proofs.DrByte.{found-byte}
-use Rattle.hosts.proofs.Silent.{Silent, nothing, matched, lost}
 use Rattle.hosts.proofs.Collected.{listed, listed-same, Stretch, collects}
 use Rattle.command.proofs.Tables.{size-most}
 use Rattle.exact.specs.Demand2.{Session, writeScene, begun, Commands, NoMark, after}
@@ -49,18 +46,9 @@ use Rattle.exact.proofs.NextCommand.{later}
 use Rattle.exact.proofs.SectorField.{Field, fieldReach}
 use Rattle.exact.proofs.OneMark.{Behind}
 use Rattle.exact.proofs.OldIds.{WrittenOver}
+use Rattle.exact.proofs.WriteActs.{silent-still, asks-still}
 use Rattle.exact.proofs.WriteStages.{WriteBegun, field, takes-ring, written-over, took-dr, asks-deed, take-deed, high-deed, low-deed, last-deed}
 use Rattle.exact.proofs.WrittenTrack.{written-over-track, written-behind}
-
-silent-takes : (deed : Deed) → Silent deed → takes deed ≡ false
-unfolding takes
-silent-takes deed nothing = refl
-silent-takes deed (matched bad) = refl
-silent-takes deed lost = refl
-
-asks-takes : (n : ℕ) → takes (preambleDeed n) ≡ false
-unfolding takes preambleDeed
-asks-takes n = by-cond (λ (d : Deed). takes d ≡ false) (eqb n 2) (λ e. refl) (λ e. refl)
 
 -- the ring stays one as it turns
 turns-held : (n : ℕ) (r : Ring) → Held r → Held (turnsOn n r)
@@ -77,9 +65,6 @@ module _ (s : Session) (k : Commands s) where
   pub alone : AloneUntil (s .writer) (begun s) (s .written)
   alone i l = k .next i (omega (arith, later s k))
 
-  calm : (i : ℕ) → i < s .written → Calm (s .writer) (begun s) i
-  calm = ended-calm (s .writer) (begun s) (s .written) alone (k .ends)
-
   -- "ends by itself with no error bit": it is not held by protection
   not-held : heldBy WriteSector (s .lines) ≡ false
   unfolding classOf at
@@ -91,7 +76,7 @@ module _ (s : Session) (k : Commands s) where
           let z : true ≡ false =
           sym e
           ∙ sym (ap (λ (f : Flags). f .protected) (given-flags (writeScene s) WriteSector (k .writes) refl (k .accepted)))
-          ∙ sym (kind-later (s .writer) (begun s) (s .written) calm (s .written) (omega arith) .0)
+          ∙ sym (kind-later (s .writer) (begun s) (s .written) alone .0)
           ∙ k .fine .protected in
           never (cc)
 
@@ -199,10 +184,8 @@ module _ (s : Session) (k : Commands s) where
   unfolding classOf
   low-byte i l =
       rw (took-byte i l)
-      (subst (λ (d : Desk). d .machine .regs .dr < 256)
-      (served-same (s .writer) (begun s) (s .written) (cellTime i) (omega (arith, over)))
-      (found-byte (until (s .writer) (s .written)) (begun s) (until-alone (s .writer) (begun s) (s .written) alone)
-      (given-dr (writeScene s) WriteSector (k .writes) refl (k .accepted) (k .dr)) (cellTime i)))
+      (found-byte (s .writer) (begun s) (given-dr (writeScene s) WriteSector (k .writes) refl (k .accepted) (k .dr))
+      (cellTime i))
 
   -- ---- the bytes that it took
 
@@ -234,11 +217,11 @@ module _ (s : Session) (k : Commands s) where
           → i < time + markPlace (s .machine .mfm)
           → Dec (i < time)
           → takes (deedAt (s .writer) (begun s) i) ≡ false
-      early i l (yes h) = silent-takes (doing i) (found-silent found i h)
+      early i l (yes h) = silent-still (found-silent found i h) .takes-none
       early i l (no h) =
           takes-at i (i - time) (preambleDeed (i - time + 1)) (omega arith)
           (asks-deed (courseOf working) time size there writes-field (i - time) (omega arith))
-          ∙ asks-takes (i - time + 1)
+          ∙ asks-still (i - time + 1) .takes-none
 
       late :
           (i : ℕ)

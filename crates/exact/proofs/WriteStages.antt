@@ -32,7 +32,7 @@ use Rattle.hosts.specs.Bytes.{deedAt}
 use Rattle.hosts.proofs.DataFields.{sumAfter}
 use Rattle.hosts.proofs.Views.{View, actIn}
 use Rattle.hosts.proofs.ByteTimes.{lost-later}
-use Rattle.hosts.proofs.Courses.{Course, deskAt, besideAt, AnyRow, ends-there, ended-calm}
+use Rattle.hosts.proofs.Courses.{Course, deskAt, besideAt, AnyRow, ends-there}
 use Rattle.hosts.proofs.Phases.{comes, Comes, Stands, comes-busy, writes-on, flags-on, deed-is}
 use Rattle.hosts.proofs.Keeps.{Keeps, nothing-keeps, ask-keeps, take-keeps, late-keeps, written-keeps}
 use Rattle.exact.proofs.RoundPlaces.{round-apart}
@@ -310,8 +310,7 @@ module _ {n : ℕ} (c : Course AnyRow) (t size : ℕ) (v : View) (b : WriteBegun
           (flags-on c t v (takes i (omega arith)) refl tt (takes-act i l))
           ∙ rw e (or-true (deskAt c (t + (mark + i)) .machine .flags .lost)) in
           let q : k + (n - k) ≡ n = omega (arith, written-over) in
-          let calm = ended-calm (c .host) (c .desk) n (b .alone) (b .ends) in
-          let later = lost-later (c .host) (c .desk) n calm (n - k) k (omega arith) lost in
+          let later = lost-later (c .host) (c .desk) (n - k) k (λ i least most. b .alone i (omega arith)) lost in
           let z : true ≡ false = sym (rw q at later) ∙ b .served in
           never (cc)
 

@@ -2,10 +2,10 @@
 use mathlib.Core.Path.{_≡_, refl, ap, _∙_}
 use mathlib.Core.Bool.{Bool, true, false, cond}
 use Prim.Native.Nat.{ℕ, _<_}
-use native.Mathlib.Omega.{arith}
 use lib.Dec.{eqb}
 use borrow.Author.Tests.{eqb-false}
-use Rattle.common.proofs.Cases.{by-cond, never}
+use Rattle.common.proofs.Cases.{never}
+use Rattle.common.specs.Bits.{bitOf}
 use Rattle.command.specs.Bits.{settlesFirst}
 use Rattle.command.specs.Commands.{classOf, decodedOf, isRestore}
 use Rattle.command.specs.Orders.{orderOf}
@@ -18,14 +18,14 @@ use Rattle.command.specs.declared.Class.the-variants.{Works}
 use Rattle.activity.specs.Limits.{busyIn}
 use Rattle.activity.specs.declared.Activity.the-variants.{Settle}
 use Rattle.registers.specs.declared.Lines.{Lines}
-use Rattle.registers.specs.declared.Regs.{Regs}
 use Rattle.registers.specs.declared.Flags.{Flags}
 use Rattle.registers.specs.Registers.{loadRefusal}
-use Rattle.accepting.specs.Accepting.{heldBy, endsAtOnce, beginRegs, beginFlags, worksFrom, beginActivity}
+use Rattle.accepting.specs.Accepting.{heldBy, endsAtOnce, asksFirst, beginRegs, beginWires, beginFlags, worksFrom, beginActivity}
 use Rattle.wd.specs.declared.Machine.{Machine}
 use Rattle.wd.specs.Machines.{validOf}
 use Rattle.wd.specs.Loads.{commandBegun, commandAnswer, loadRegister}
 use Rattle.hosts.specs.Scenes.{Scene, loaded, settling}
+use Rattle.hosts.proofs.DrByte.{begun-byte}
 use Rattle.hosts.proofs.Views.{View, viewOf}
 
 -- ---- 0 for a load of the command register
@@ -81,11 +81,11 @@ no-restore command works e = let z : classOf Restore ≡ Works = rw e at works i
 begun-settles : (class : Class) (ends mfm : Bool) (b : ℕ)
     → class ≡ Works
     → ends ≡ false
-    → beginActivity ends mfm b class ≡ Settle (cond (settlesFirst b) (settleTimeOf mfm) 0)
-unfolding beginActivity worksFrom
-begun-settles class ends mfm b works goes = rw (works, goes) (by (settlesFirst b))
+    → beginActivity ends mfm b class ≡ Settle (cond (bitOf b 2) (cond mfm 938 469) 0)
+unfolding beginActivity worksFrom settlesFirst settleTimeOf
+begun-settles class ends mfm b works goes = rw (works, goes) (by (bitOf b 2))
   where
-    by : (settles : Bool) → cond settles (Settle (settleTimeOf mfm)) (Settle 0) ≡ Settle (cond settles (settleTimeOf mfm) 0)
+    by : (settles : Bool) → cond settles (Settle (cond mfm 938 469)) (Settle 0) ≡ Settle (cond settles (cond mfm 938 469) 0)
     by true = refl
     by false = refl
 
@@ -136,7 +136,7 @@ begun-view s command accepted e works goes =
     regs : beginRegs (m .regs) command ≡ m .regs
     regs = rw (no-other-restores command (no-restore command works))
 
--- ---- what it leaves in the status bits and in DR
+-- ---- what it leaves in the status bits, in DR and of DRQ
 
 abbrev pub flagsGiven : Bool → Flags
 flagsGiven held =
@@ -156,7 +156,9 @@ module _ (s : Scene) (command : Command) (is : decodedOf (s .byte) ≡ Taken com
 
   -- DR holds a byte after it
   pub given-dr : s .machine .regs .dr < 256 → loaded s .machine .regs .dr < 256
-  unfolding commandBegun beginRegs
-  given-dr low =
-      rw (ap (λ (m : Machine). m .regs .dr) taken-up)
-      (by-cond (λ (r : Regs). r .dr < 256) (isRestore command) (λ e. omega arith) (λ e. low))
+  given-dr low = rw taken-up (begun-byte (s .machine) (s .lines) (s .byte) command low)
+
+  -- DRQ is off after it
+  pub given-drq : asksFirst command ≡ false → loaded s .machine .wires .drq ≡ false
+  unfolding commandBegun beginWires
+  given-drq waits = ap (λ (m : Machine). m .wires .drq) taken-up ∙ simp (works, waits)

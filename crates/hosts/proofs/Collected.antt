@@ -1,6 +1,6 @@
 -- What counts in a row of byte times that come one after another, and in no other. Assumes nothing.
 use mathlib.Core.Path.{_≡_, refl, sym, ap, ap₂, _∙_}
-use mathlib.Core.Bool.{Bool, true, false}
+use mathlib.Core.Bool.{Bool, true, false, cond}
 use mathlib.Core.List.{List, [], _∷_, _++_, append-nil, map, map-append}
 use Prim.Native.Nat.{ℕ, zero, suc, _+_, _-_, _≤_, _<_}
 use native.Mathlib.Nat.{add-zero, add-suc}
@@ -36,6 +36,30 @@ listed-cells rule row (suc n) l =
     ap (λ (xs : List ℕ). xs ++ (rule (getD row n 0) ∷ [])) (listed-cells rule row n (omega arith))
     ∙ sym (map-append rule (take n row) (getD row n 0 ∷ []))
     ∙ ap (map rule) (sym (take-suc row n 0 l))
+
+-- where the first byte time does not count, what is collected is collected after it
+pub collected-later :
+    (counts : ℕ → Bool) (byte : ℕ → ℕ) (n : ℕ)
+    → counts 0 ≡ false
+    → collected counts byte (suc n) ≡ collected (λ k. counts (suc k)) (λ k. byte (suc k)) n
+unfolding collected
+collected-later counts byte zero none = rw none refl
+collected-later counts byte (suc n) none =
+    ap (λ (xs : List ℕ). xs ++ cond (counts (suc n)) (byte (suc n) ∷ []) []) (collected-later counts byte n none)
+
+-- what is collected by two tests stays the same as long as they agree
+pub collected-same :
+    (counts others : ℕ → Bool) (byte : ℕ → ℕ) (w j : ℕ)
+    → collected counts byte w ≡ collected others byte w
+    → ((k : ℕ) → w ≤ k → k < w + j → counts k ≡ others k)
+    → collected counts byte (w + j) ≡ collected others byte (w + j)
+unfolding collected
+collected-same counts others byte w zero same agree = rw (add-zero w) same
+collected-same counts others byte w (suc j) same agree =
+    rw (add-suc w j)
+    (ap₂ (λ (xs : List ℕ) (count : Bool). xs ++ cond count (byte (w + j) ∷ []) [])
+    (collected-same counts others byte w j same (λ k l h. agree k l (omega arith)))
+    (agree (w + j) (omega arith) (omega arith)))
 
 -- of n byte times, those from w on count, so many of them
 pub record Stretch (counts : ℕ → Bool) (w size n : ℕ) : Type 0 where

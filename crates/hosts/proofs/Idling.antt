@@ -11,6 +11,7 @@ use lib.Seq.{set-getD}
 use Rattle.common.proofs.Cases.{never}
 use Rattle.activity.specs.Acts.{pass}
 use Rattle.activity.specs.Limits.{busyIn}
+use Rattle.activity.specs.declared.Act.{Act}
 use Rattle.activity.specs.declared.Activity.{Activity}
 use Rattle.activity.specs.declared.Activity.the-variants.{Idle, Seek, Pulse, Stop, Settle, Search, Window, Data, Hunt, Address, Await, TrackRead, Preamble, Put, Format, FormatCrc}
 use Rattle.activity.specs.declared.Deed.the-variants.{Nothing}
@@ -23,9 +24,11 @@ use Rattle.wd.specs.Rows.{under, byteTime, byteTimeRow}
 use Rattle.reachable.specs.Growth.{Fixed}
 use Rattle.reachable.proofs.AsGiven.{byte-time-machine, byte-time-row}
 use Rattle.reachable.proofs.Fixed.{as-given, further, load-fixed, read-fixed, byte-time-fixed}
-use Rattle.hosts.specs.Hosts.{Call, loads, reads, calledOf, calledAll, Host, Desk, servedAt, passesUnder, at, AloneUntil}
+use Rattle.hosts.specs.Hosts.{Call, loads, reads, calledOf, calledAll, NoneAccepted, Host, Desk, servedAt, passesUnder, at, AloneUntil}
+use Rattle.hosts.specs.Bytes.{deedAt}
 use Rattle.hosts.proofs.QuietCalls.{calls-activity}
-use Rattle.hosts.proofs.Views.{done-machine, done-row}
+use Rattle.hosts.proofs.Views.{DoneAt, done-machine, done-row}
+use Rattle.hosts.proofs.ByteTimes.{finds, done-or-not, deed-done, deed-none}
 
 -- ---- length and density
 
@@ -93,6 +96,21 @@ module _ (m : Machine) (l : Lines) (row : List ℕ) where
         ap (λ (n : Machine). n .activity) (byte-time-machine m l row refused) ∙ idle,
         byte-time-row m l row refused,
       )
+
+-- of any host that gives no command before it: nothing happens
+pub idle-deed :
+    (h : Host) (d : Desk) (n : ℕ)
+    → NoneAccepted (at h d n .machine) (h .calls n)
+    → busyIn (at h d n .machine .activity) ≡ false
+    → deedAt h d n ≡ Nothing
+idle-deed h d n quiet over = by (done-or-not h d n)
+  where
+    idle : finds h d n .activity ≡ Idle
+    idle = calls-activity (at h d n .machine) (h .calls n) quiet ∙ is-idle (at h d n .machine .activity) over
+
+    by : Dec (DoneAt h d n) → deedAt h d n ≡ Nothing
+    by (yes done) = deed-done h d n done ∙ ap (λ (a : Act). a .deed) (idle-does (finds h d n) (h .lines n) _ idle)
+    by (no refused) = deed-none h d n refused
 
 -- ---- any number of them
 

@@ -17,10 +17,9 @@ pub mod Seeking
 pub mod Searching
 pub mod Silent
 pub mod RingIds
+pub mod DrByte
 pub mod Accepted
 pub mod Intrq
-pub mod CutHosts
-pub mod DrByte
 pub mod DataFields
 pub mod Collected
 pub mod ReadActs

@@ -92,7 +92,7 @@ module _ {Rows : List ℕ → Type 0} (c : Course Rows) (t : ℕ) (v : View) whe
             ≡ flagsAfter (deskAt c (t + n) .machine .flags) (besideAt c (t + n) .drq) deed
         flags-on =
             rw (add-suc t n)
-            (next-flags (c .host) (c .desk) (t + n) calm
+            (next-flags (c .host) (c .desk) (t + n) (calm .quiet)
             ∙ ap (flagsAfter (deskAt c (t + n) .machine .flags) (besideAt c (t + n) .drq)) deed-is)
 
         -- one byte time more

@@ -3,7 +3,7 @@
 use mathlib.Core.Path.{_≡_, refl, sym, ap, _∙_, subst}
 use mathlib.Core.Bool.{Bool, true, false, cond, _&&_, _||_}
 use mathlib.Core.List.{List, [], _∷_}
-use Prim.Native.Nat.{ℕ, _<_}
+use Prim.Native.Nat.{ℕ}
 use lib.Dec.{leb, eqb}
 use Rattle.common.proofs.Cases.{by-cond, never}
 use Rattle.command.specs.Commands.{decodedOf}
@@ -11,7 +11,6 @@ use Rattle.command.specs.declared.Decoded.{Decoded}
 use Rattle.command.specs.declared.Decoded.the-variants.{Taken, NoCommand}
 use Rattle.activity.specs.Limits.{busyIn}
 use Rattle.registers.specs.declared.Lines.{Lines}
-use Rattle.registers.specs.declared.Regs.{Regs}
 use Rattle.registers.specs.Registers.{readRefusal, guarded, loadRefusal, loadRegs, loadWires}
 use Rattle.wd.specs.declared.Machine.{Machine}
 use Rattle.wd.specs.declared.Loaded.{Loaded}
@@ -91,15 +90,6 @@ module _ (m : Machine) (l : Lines) (number b : ℕ) where
       let free = unguarded (validOf m) number b (rw busy at taken) in
       simp (free .0, free .1) (refl, refl))
 
-  load-dr : b < 256 → m .regs .dr < 256 → NoneIn (loadRegister m l number b) → loadRegister m l number b .machine .regs .dr < 256
-  unfolding loadRegs
-  load-dr byte low =
-      load-by (λ (n : Machine). n .regs .dr < 256) low
-      (λ other taken.
-      by-cond (λ (r : Regs). r .dr < 256) (eqb number 1)
-      (λ tr. low)
-      (λ e. by-cond (λ (r : Regs). r .dr < 256) (eqb number 2) (λ sr. low) (λ dr. byte)))
-
 -- ---- a read
 
 read-bus : (m : Machine) (l : Lines) (number : ℕ) → readRegister m l number .machine ≡ busFrom m (readRegister m l number .machine)
@@ -131,11 +121,6 @@ unfolding calledOf commands
 call-targets m (loads l number b byte) quiet busy = load-targets m l number b busy quiet
 call-targets m (reads l number) quiet busy = simp (read-regs m l number) (refl, refl)
 
-call-dr : (m : Machine) (c : Call) → commands m c ≡ false → m .regs .dr < 256 → calledOf m c .regs .dr < 256
-unfolding calledOf commands
-call-dr m (loads l number b byte) quiet low = load-dr m l number b byte low quiet
-call-dr m (reads l number) quiet low = rw (read-regs m l number) low
-
 call-valid : (m : Machine) (c : Call) → Valid m → Valid (calledOf m c)
 unfolding calledOf
 call-valid m (loads l number b byte) v = load-valid m l number b v
@@ -155,12 +140,6 @@ pub calls-valid : (m : Machine) (cs : List Call) → Valid m → Valid (calledAl
 unfolding calledAll
 calls-valid m [] v = v
 calls-valid m (c ∷ cs) v = calls-valid (calledOf m c) cs (call-valid m c v)
-
--- DR holds a byte
-pub calls-dr : (m : Machine) (cs : List Call) → NoneAccepted m cs → m .regs .dr < 256 → calledAll m cs .regs .dr < 256
-unfolding calledAll
-calls-dr m [] none low = low
-calls-dr m (c ∷ cs) (more quiet rest) low = calls-dr (calledOf m c) cs rest (call-dr m c quiet low)
 
 -- the command goes on, or none does
 pub calls-activity : (m : Machine) (cs : List Call) → NoneAccepted m cs → calledAll m cs .activity ≡ m .activity

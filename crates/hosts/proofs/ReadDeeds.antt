@@ -37,7 +37,7 @@ crc-kept f drq deed delivers = refl
 crc-kept f drq deed records = or-false (f .crc)
 
 -- Lost Data comes with a byte that finds DRQ on
-or-true-of : (a b : Bool) → (a || b) ≡ true → (a ≡ true) ⊎ (b ≡ true)
+pub or-true-of : (a b : Bool) → (a || b) ≡ true → (a ≡ true) ⊎ (b ≡ true)
 or-true-of true b e = inl refl
 or-true-of false b e = inr e
 

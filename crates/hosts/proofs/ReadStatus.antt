@@ -50,7 +50,7 @@ module _ {s : Scene} {n : ℕ} (r : Meets s n) where
       (i : ℕ)
       → i < n
       → flagsAt (suc i) ≡ flagsAfter (flagsAt i) (servedAt h i (at h d i) .machine .wires .drq) (doing i)
-  steps i l = next-flags h d i (calm r i l)
+  steps i l = next-flags h d i (calm r i l .quiet)
 
   begun-flags : loaded s .machine .flags ≡ flagsGiven (heldBy ReadSector (s .lines))
   begun-flags = given-flags s ReadSector (r .reads .given .decodes) (r .reads .given .works) (r .reads .given .accepted)
@@ -105,11 +105,11 @@ module _ {s : Scene} {n : ℕ} (r : Meets s n) where
       (steps last (omega (arith, over r)) ∙ ap (flagsAfter _ _) (recorded r last refl))
 
   pub type-two : at h d n .machine .flags .type1 ≡ false
-  type-two = kind-later h d n (calm r) n (omega arith) .1 ∙ ap (λ (f : Flags). f .type1) begun-flags
+  type-two = kind-later h d n (r .reads .alone) .1 ∙ ap (λ (f : Flags). f .type1) begun-flags
 
   pub unprotected : at h d n .machine .flags .protected ≡ false
   unfolding heldBy writes
-  unprotected = kind-later h d n (calm r) n (omega arith) .0 ∙ ap (λ (f : Flags). f .protected) begun-flags
+  unprotected = kind-later h d n (r .reads .alone) .0 ∙ ap (λ (f : Flags). f .protected) begun-flags
 
   -- the status byte, under any lines
   pub told :

@@ -240,7 +240,7 @@ module _ {s : Scene} {n : ℕ} (r : Meets s n) where
   unfolding regsAfter effectOf delivered addressNamed recordOver recordRead cellTaken stepped halted
   handed-byte i l =
       ap (λ (x : Regs). x .dr)
-      (next-regs h d (from + i) (calm (from + i) (omega (arith, over)))
+      (next-regs h d (from + i)
       ∙ ap (regsAfter (servedAt h (from + i) (at h d (from + i)) .machine .regs)) (byte-delivered i l))
 
   pub handed-list : handed h d n ≡ listed byte size

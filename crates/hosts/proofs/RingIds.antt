@@ -1,7 +1,7 @@
 -- IDs on the ring that a command goes by, and the cells with which its search hears that one ends: what it takes stands on the
 -- ring, and what stands there is taken within a round. Assumes nothing.
 use mathlib.Core.Path.{_≡_, refl, sym, ap, _∙_}
-use mathlib.Core.Bool.{Bool, true, false}
+use mathlib.Core.Bool.{Bool, true, false, cond}
 use Prim.Native.Nat.{ℕ, suc, _+_, _<_}
 use native.Mathlib.Nat.{mod-lt}
 use native.Mathlib.Omega.{arith}
@@ -9,6 +9,7 @@ use lib.Dec.{eqb}
 use lib.ListN.{length}
 use borrow.Author.Tests.{eqb-true, eq-eqb}
 use Rattle.common.proofs.Cases.{never, both, all}
+use Rattle.common.specs.Bits.{bitOf}
 use Rattle.scan.specs.Marks.{leadOf}
 use Rattle.scan.specs.Streams.{IdAt, idWidth, idFrom, IdEnds, heardAt}
 use Rattle.scan.specs.declared.Id.{Id}
@@ -16,7 +17,7 @@ use Rattle.scan.specs.declared.Heard.{Heard}
 use Rattle.scan.specs.declared.Heard.the-variants.{On, Whole}
 use Rattle.scan.proofs.Ids.{ids}
 use Rattle.command.specs.Orders.{orderOf}
-use Rattle.command.specs.Bits.{sideAsked}
+use Rattle.command.specs.Bits.{sideOf, sideAsked}
 use Rattle.command.specs.declared.SideAsked.{SideAsked}
 use Rattle.command.specs.declared.SideAsked.the-variants.{Any, Only}
 use Rattle.command.specs.declared.Order.{Order}
@@ -41,7 +42,7 @@ module _ (s : Scene) (command : Command) (id : Id) where
   suited = suitsFor (groundOf s command .order) (s .machine .regs .tr) (s .machine .regs .sr) id
 
   suits-there : suited ≡ true → Suits s id
-  unfolding suitsFor orderOf sideMatches
+  unfolding suitsFor orderOf sideMatches sideAsked sideOf
   suits-there e =
       let parts = both _ (id .good) e in
       let sides = both _ (sideMatches (id .side) (sideAsked (s .byte))) (parts .0) in
@@ -49,18 +50,43 @@ module _ (s : Scene) (command : Command) (id : Id) where
       record {
         track = eqb-true _ _ (targets .0);
         sector = eqb-true _ _ (targets .1);
-        side = λ only asks. eqb-true (id .side) only (rw asks at (sides .1));
+        side = λ asks. eqb-true (id .side) _ (rw asks at (sides .1));
         good = parts .1;
       }
 
   suits-back : Suits s id → suited ≡ true
-  unfolding suitsFor orderOf sideMatches
+  unfolding suitsFor orderOf sideMatches sideAsked sideOf
   suits-back h =
-      all (all (all (eq-eqb _ _ (h .track)) (eq-eqb _ _ (h .sector))) (by (sideAsked (s .byte)) (h .side))) (h .good)
+      all (all (all (eq-eqb _ _ (h .track)) (eq-eqb _ _ (h .sector))) (by (bitOf (s .byte) 1) (h .side))) (h .good)
     where
-      by : (asks : SideAsked) → ((only : ℕ) → asks ≡ Only only → id .side ≡ only) → sideMatches (id .side) asks ≡ true
-      by Any same = refl
-      by (Only only) same = eq-eqb (id .side) only (same only refl)
+      by : (c : Bool)
+          → (c ≡ true → id .side ≡ cond (bitOf (s .byte) 3) 1 0)
+          → sideMatches (id .side) (cond c (Only (cond (bitOf (s .byte) 3) 1 0)) Any) ≡ true
+      by true same = eq-eqb (id .side) _ (same refl)
+      by false same = refl
+
+-- two commands that ask for the same side
+onlyOf : SideAsked → ℕ
+onlyOf Any = 0
+onlyOf (Only side) = side
+
+pub same-side-suits :
+    (b b′ side : ℕ)
+    → sideAsked b′ ≡ sideAsked b
+    → (bitOf b 1 ≡ true → side ≡ cond (bitOf b 3) 1 0)
+    → bitOf b′ 1 ≡ true
+    → side ≡ cond (bitOf b′ 3) 1 0
+unfolding sideAsked sideOf onlyOf
+same-side-suits b b′ side = by (bitOf b 1) (bitOf b′ 1)
+  where
+    by : (c c′ : Bool)
+        → cond c′ (Only (cond (bitOf b′ 3) 1 0)) Any ≡ cond c (Only (cond (bitOf b 3) 1 0)) Any
+        → (c ≡ true → side ≡ cond (bitOf b 3) 1 0)
+        → c′ ≡ true
+        → side ≡ cond (bitOf b′ 3) 1 0
+    by true true same suits asks = suits refl ∙ sym (ap onlyOf same)
+    by false true same suits asks = never (cc)
+    by c false same suits asks = never (cc)
 
 -- one that the command goes by stands on the ring from cell p on
 pub record IdOnRing (s : Scene) (p : ℕ) : Type 0 where

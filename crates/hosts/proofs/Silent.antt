@@ -28,7 +28,7 @@ pub data Early : Activity → Type 0 where
 
 module _ (o : Order) (s : Seen) where
   -- a command of Type II that has settled searches
-  early-on : {a acting : Activity} → TypeTwo (jobOf (o .command)) → Early a → Enters o s a acting → Early acting
+  pub early-on : {a acting : Activity} → TypeTwo (jobOf (o .command)) → Early a → Enters o s a acting → Early acting
   unfolding jobBegun
   early-on two early (Enters.goes-on a f) = early
   early-on two settles Enters.settled = begins two

@@ -26,7 +26,7 @@ use Rattle.wd.specs.Turns.{partsOf, doesOf, actApplied, cellTurn}
 use Rattle.wd.specs.Rows.{rowRefusal, under, refusedAt, doneBy, byteTime, byteTimeRow}
 use Rattle.wd.proofs.Valid.{row-open}
 use Rattle.reachable.proofs.Valid.{Valid, byte-time-valid}
-use Rattle.hosts.specs.Hosts.{NoneAccepted, Host, Desk, calledAll, servedAt, passesUnder, at, Alone}
+use Rattle.hosts.specs.Hosts.{NoneAccepted, Host, Desk, calledAll, servedAt, passesUnder, at}
 use Rattle.hosts.proofs.QuietCalls.{calls-bus, calls-valid, calls-targets}
 use Rattle.effects.specs.Effects.{effectOf, delivered, addressNamed, recordOver, recordRead, cellTaken, stepped, halted}
 
@@ -273,23 +273,3 @@ module _ (h : Host) (d : Desk) where
       (calls-valid (at h d n .machine) (h .calls n) v)
       (whole ∙ sym (ap (λ (r : Ring). r .length) ring))
       (rw (ap (λ (r : Ring). getD (at h d n .row) (r .position) 0) ring) low)
-
--- of a host that never gives a command
-module _ (h : Host) (d : Desk) (alone : Alone h d) where
-  pub next-view :
-      (n : ℕ)
-      → busyIn (at h d n .machine .activity) ≡ true
-      → DoneAt h d n
-      → viewOf (at h d (suc n)) ≡ stepOf (viewOf (at h d n)) (outsideAt h d n)
-  next-view n busy done = calm-view h d (record { quiet = alone n; done = done }) busy
-
-  pub at-valid : Valid (d .machine) → (n : ℕ) → Valid (at h d n .machine)
-  at-valid = stays-valid h d
-
-  pub done-at :
-      (n : ℕ)
-      → Valid (at h d n .machine)
-      → length (at h d n .row) ≡ at h d n .machine .ring .length
-      → cellUnder (viewOf (at h d n)) ≤ 511
-      → DoneAt h d n
-  done-at n = done-under h d n (alone n)

@@ -6,17 +6,21 @@ use Prim.Native.Nat.{ℕ, zero, suc}
 use lib.Dec.{eqb}
 use Rattle.activity.specs.declared.Deed.{Deed}
 use Rattle.activity.specs.declared.Deed.the-variants.{Nothing, Deliver, Named, Matched, NotFound, Record, Written, Ask, Late, Take, Step, Halt}
+use Rattle.registers.specs.declared.Lines.{Lines}
 use Rattle.wd.specs.Turns.{doesOf}
 use Rattle.wd.specs.Rows.{under, byteTime}
 use Rattle.hosts.specs.Hosts.{Host, Desk, servedAt, at}
 
--- what byte time n does: nothing where it is refused
-unfoldable pub deedAt : Host → Desk → ℕ → Deed
-deedAt h d n =
-    let found = servedAt h n (at h d n) in
-    cond (eqb (byteTime (found .machine) (h .lines n) (found .row) .number) 0)
-    (doesOf (found .machine) (h .lines n) (under (found .machine) (found .row)) .deed)
+-- what a byte time does that finds this desk: nothing where it is refused
+unfoldable pub deedOn : Lines → Desk → Deed
+deedOn l found =
+    cond (eqb (byteTime (found .machine) l (found .row) .number) 0)
+    (doesOf (found .machine) l (under (found .machine) (found .row)) .deed)
     Nothing
+
+-- what byte time n does
+unfoldable pub deedAt : Host → Desk → ℕ → Deed
+deedAt h d n = deedOn (h .lines n) (servedAt h n (at h d n))
 
 -- "Each data cell takes DR"
 unfoldable pub takes : Deed → Bool
@@ -61,7 +65,7 @@ taken h d = collected (λ k. takes (deedAt h d k)) (λ k. servedAt h k (at h d k
 abbrev pub handed : Host → Desk → ℕ → List ℕ
 handed h d = collected (λ k. hands (deedAt h d k)) (λ k. at h d (suc k) .machine .regs .dr)
 
--- "if DRQ was still on": the host has not read the byte before
+-- "if DRQ was still on": the host has neither read nor loaded DR since the byte before
 pub record LateAt (h : Host) (d : Desk) (k : ℕ) : Type 0 where
   pub hand : hands (deedAt h d k) ≡ true
   pub still : servedAt h k (at h d k) .machine .wires .drq ≡ true

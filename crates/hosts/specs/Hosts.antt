@@ -62,21 +62,16 @@ unfoldable pub at : Host → Desk → ℕ → Desk
 at h d zero = d
 at h d (suc n) = passesUnder (h .lines n) (servedAt h n (at h d n))
 
--- None of the host's calls is an accepted command, however long it goes on: what `Ends` asks of it. Demands 2 and 3 ask this
--- only until their commands have ended (`AloneUntil`, `Undisturbed`).
-abbrev pub Alone : Host → Desk → Type 0
-Alone h d = (n : ℕ) → NoneAccepted (at h d n .machine) (h .calls n)
-
--- none before the first n byte times is: demand 2
+-- none of its calls before the first n byte times is an accepted command: demand 2
 abbrev pub AloneUntil : Host → Desk → ℕ → Type 0
 AloneUntil h d n = (k : ℕ) → k < n → NoneAccepted (at h d k .machine) (h .calls k)
 
--- Busy before byte time n, numbered from 0: what demand 3 asks of a host it asks while the command is under way; when it is
--- over the host does as it likes
+-- Busy before byte time n, numbered from 0: what demand 3 and `Ends` ask of a host they ask while the command is under way;
+-- when it is over the host does as it likes
 abbrev pub BusyAt : Host → Desk → ℕ → Type 0
 BusyAt h d n = busyIn (at h d n .machine .activity) ≡ true
 
--- none is while Busy: demand 3
+-- no command is accepted while Busy: demand 3 and `Ends`
 abbrev pub Undisturbed : Host → Desk → Type 0
 Undisturbed h d = (n : ℕ) → BusyAt h d n → NoneAccepted (at h d n .machine) (h .calls n)
 

@@ -3,10 +3,8 @@ use mathlib.Core.Path.{_≡_}
 use mathlib.Core.Bool.{true, cond}
 use mathlib.Core.List.{List}
 use Prim.Native.Nat.{ℕ}
+use Rattle.common.specs.Bits.{bitOf}
 use Rattle.scan.specs.declared.Id.{Id}
-use Rattle.command.specs.Bits.{settlesFirst, sideAsked}
-use Rattle.command.specs.declared.SideAsked.the-variants.{Only}
-use Rattle.command.specs.Times.{settleTimeOf}
 use Rattle.registers.specs.declared.Lines.{Lines}
 use Rattle.wd.specs.declared.Machine.{Machine}
 use Rattle.wd.specs.Loads.{loadRegister}
@@ -25,13 +23,13 @@ pub record Scene : Type 0 where
 abbrev pub loaded : Scene → Desk
 loaded s = record { machine = loadRegister (s .machine) (s .lines) 0 (s .byte) .machine; row = s .row }
 
--- "settle for 469 (FM) or 938 (MFM) byte times if E is 1"
+-- "settle for 469 (FM) or 938 (MFM) byte times if E is 1"; "Bits of Type II: 4 m, 3 S, 2 E, 1 C, 0 mark."
 abbrev pub settling : Scene → ℕ
-settling s = cond (settlesFirst (s .byte)) (settleTimeOf (s .machine .mfm)) 0
+settling s = cond (bitOf (s .byte) 2) (cond (s .machine .mfm) 938 469) 0
 
 -- "An ID matches if its track is TR and, for Type II, its sector is SR and, with C, its side is S"; "with a good CRC"
 pub record Suits (s : Scene) (id : Id) : Type 0 where
   pub track : id .track ≡ s .machine .regs .tr
   pub sector : id .sector ≡ s .machine .regs .sr
-  pub side : (only : ℕ) → sideAsked (s .byte) ≡ Only only → id .side ≡ only
+  pub side : bitOf (s .byte) 1 ≡ true → id .side ≡ cond (bitOf (s .byte) 3) 1 0
   pub good : id .good ≡ true

@@ -130,7 +130,7 @@ module _ (s : Scene) (asked : InTimePremises s) where
   -- ---- in the demand's words
 
   -- there is one first ID
-  first-once : (j k : ℕ) → FirstWhole s j → FirstWhole s k → j ≡ k
+  pub first-once : (j k : ℕ) → FirstWhole s j → FirstWhole s k → j ≡ k
   first-once j k f g = by (decLt j k) (decLt k j)
     where
       by : Dec (j < k) → Dec (k < j) → j ≡ k
@@ -139,7 +139,7 @@ module _ (s : Scene) (asked : InTimePremises s) where
       by (no l) (no m) = omega arith
 
   -- it stands on the ring
-  whole-ring : (k : ℕ) → FirstWhole s k → OnRing s
+  pub whole-ring : (k : ℕ) → FirstWhole s k → OnRing s
   whole-ring k f =
       id-ring
       (hit-ring s ReadSector (settling s) (omega (arith, inside)) k
@@ -172,10 +172,11 @@ module _ (s : Scene) (asked : InTimePremises s) where
   at-fifth (no-mark k f unmarked most) none = absurd (none (whole-ring k f))
   at-fifth (served k f marked most) none = absurd (none (whole-ring k f))
 
--- "In time: a single Read Sector accepted with the drive ready, HLT on throughout, no other command accepted, the same track
--- of L cells (none above 511) lent each byte time, ends with Record Not Found exactly when no ID on the whole ring matches
--- with a good CRC, or the first such ID to pass whole after settling has no data mark in its window. Counted after settling
--- it ends within L + 1,078 byte times where such an ID exists, and at the fifth index pulse, within 5L, where none does."
+-- "In time: take a single Read Sector accepted with the drive ready, the head-load line on throughout, no other command
+-- accepted, and the same track of L cells, none above 511, lent each byte time. It ends with Record Not Found exactly when no ID
+-- on the whole ring matches with a good CRC, or the first such ID to pass whole after settling has no data mark in its window.
+-- Counted after settling, it ends within L + 1,078 byte times where such an ID exists, and at the fifth index pulse, within 5L,
+-- where none does."
 pub in-time : (s : Scene) → InTimePremises s → Demand3 s
 unfolding Ended
 in-time s asked =

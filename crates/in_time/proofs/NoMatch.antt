@@ -25,25 +25,35 @@ use Rattle.reachable.proofs.Samples.{sampleLength, on, empty, empty-length, emp
 use Rattle.hosts.specs.Hosts.{EndsAt}
 use Rattle.hosts.specs.Scenes.{Scene, loaded, settling}
 use Rattle.hosts.proofs.Pulses.{pulseTime, pulse-once}
-use Rattle.in_time.specs.Demand3.{InTimePremises, startOf, OnRing}
+use Rattle.in_time.specs.Demand3.{InTimePremises, startOf, OnRing, FifthPulse}
 use Rattle.in_time.proofs.Demand3.{in-time}
 use Rattle.in_time.proofs.Scenes.{reader, sceneOf, scene-asked, fresh, fresh-accepts}
 use Rattle.command.specs.Bits.{settlesFirst, isMultiple, verifiesTrack, sideOf, sideAsked, markWritten}
 
--- any command of demand 3 that meets no ID, on a ring of 2,048 cells
+-- the fifth pulse on a ring of 2,048 cells
+pub fifth-is : (s : Scene) (from before : ℕ)
+    → length (s .row) ≡ sampleLength
+    → startOf s ≡ from
+    → from < sampleLength
+    → pulseTime 4 sampleLength from ≡ before
+    → (k : ℕ)
+    → FifthPulse s k
+    → k ≡ before
+fifth-is s from before size e inside which k fifth =
+    pulse-once 4 sampleLength from inside k (rw (size, e) at (fifth .four)) (rw (size, e) at (fifth .pulse)) ∙ which
+
+-- any command of demand 3 that meets no ID there
 module _ (s : Scene) (asked : InTimePremises s) (size : length (s .row) ≡ sampleLength) (nowhere : OnRing s → ⊥) where
   ends-fifth :
       (from before : ℕ)
       → startOf s ≡ from
-      → from < 2048
-      → pulseTime 4 2048 from ≡ before
+      → from < sampleLength
+      → pulseTime 4 sampleLength from ≡ before
       → EndsAt (s .host) (loaded s) (settling s + suc before)
   ends-fifth from before e inside which =
       let (n, ends, promised) = in-time s asked in
       let (k, fifth, same, most) = promised .lost nowhere in
-      let once : k ≡ before =
-      pulse-once 4 2048 from inside k (rw (size, e) at (fifth .four)) (rw (size, e) at (fifth .pulse)) ∙ which in
-      rw (same, once) at ends
+      rw (same, fifth-is s from before size e inside which k fifth) at ends
 
   pub from-cell-0 : startOf s ≡ 0 → EndsAt (s .host) (loaded s) (settling s + 8193)
   unfolding pulseTime
@@ -65,20 +75,20 @@ unfolding MarkAt
 no-mark false a (low, e) = omega (arith, plain a)
 no-mark true a (low, x, y, z, e) = omega (arith, plain a)
 
-module _ (m : Machine) (size : m .ring .length ≡ sampleLength) (accepted : loadRegister m on 0 0x80 .number ≡ 0) where
-  empty-nowhere : OnRing (sceneOf m empty) → ⊥
-  empty-nowhere ring = no-mark (m .mfm) (ring .cell) (ring .stands .mark)
+pub empty-nowhere : (s : Scene) → s .row ≡ empty → OnRing s → ⊥
+empty-nowhere s e ring = no-mark (s .machine .mfm) (ring .cell) (rw e at (ring .stands .mark))
 
+module _ (m : Machine) (size : m .ring .length ≡ sampleLength) (accepted : loadRegister m on 0 0x80 .number ≡ 0) where
   empty-asked : InTimePremises (sceneOf m empty)
   empty-asked = scene-asked m empty accepted (empty-length ∙ sym size) low-empty
 
   empty-from-0 : m .ring .position ≡ 0 → EndsAt reader (loaded (sceneOf m empty)) 8193
   unfolding bitOf settlesFirst isMultiple verifiesTrack sideOf sideAsked markWritten turnsOn
-  empty-from-0 = from-cell-0 (sceneOf m empty) empty-asked empty-length empty-nowhere
+  empty-from-0 = from-cell-0 (sceneOf m empty) empty-asked empty-length (empty-nowhere (sceneOf m empty) refl)
 
   empty-from-1 : m .ring .position ≡ 1 → EndsAt reader (loaded (sceneOf m empty)) 10240
   unfolding bitOf settlesFirst isMultiple verifiesTrack sideOf sideAsked markWritten turnsOn
-  empty-from-1 = from-cell-1 (sceneOf m empty) empty-asked empty-length empty-nowhere
+  empty-from-1 = from-cell-1 (sceneOf m empty) empty-asked empty-length (empty-nowhere (sceneOf m empty) refl)
 
 -- at power-on the head is on cell 0
 pub ends-at-8193 : (mfm : Bool) → EndsAt reader (loaded (sceneOf (fresh mfm) empty)) 8193

@@ -135,7 +135,7 @@ hit : hitAt (settledIn scene) 2056 ≡ true
 unfolding bitOf settlesFirst isMultiple verifiesTrack sideOf sideAsked markWritten powerOn lengthWithin freshMachine
 hit =
     id-hit scene ReadSector (settling scene) 2056 named stands-there
-    (record { track = refl; sector = refl; side = λ only asks. never (cc); good = refl })
+    (record { track = refl; sector = refl; side = λ asks. never (cc); good = refl })
 
 found : Found (working scene asked) reads-two (heads scene asked)
 unfolding pulseTime bitOf settlesFirst isMultiple verifiesTrack sideOf sideAsked markWritten powerOn lengthWithin freshMachine turnsOn

@@ -27,17 +27,17 @@ use Rattle.hosts.specs.Tracks.{positionAt, passing, pulsesIn}
 
 -- of a command, its host and its track
 pub record InTimePremises (s : Scene) : Type 0 where
-  -- "a single Read Sector": without m
+  -- "take a single Read Sector": without m
   pub reads : decodedOf (s .byte) ≡ Taken ReadSector
   pub single : isMultiple (s .byte) ≡ false
   -- "accepted with the drive ready"
   pub accepted : loadRegister (s .machine) (s .lines) 0 (s .byte) .number ≡ 0
   pub ready : s .lines .ready ≡ true
-  -- "HLT on throughout"
+  -- "the head-load line on throughout"
   pub hlt : (n : ℕ) → BusyAt (s .host) (loaded s) n → s .host .lines n .hlt ≡ true
   -- "no other command accepted"
   pub alone : Undisturbed (s .host) (loaded s)
-  -- "the same track of L cells (none above 511) lent each byte time"
+  -- "the same track of L cells, none above 511, lent each byte time"
   pub whole : length (s .row) ≡ s .machine .ring .length
   pub low : (i : ℕ) → i < length (s .row) → getD (s .row) i 0 ≤ 511
 
@@ -91,13 +91,13 @@ notFound m l = bitOf (readRegister m l 0 .byte) 4
 pub record InTime (s : Scene) (n : ℕ) : Type 0 where
   -- "When it ends by itself, Busy goes off and INTRQ on in that byte time."
   pub raised : at (s .host) (loaded s) n .machine .wires .intrq ≡ true
-  -- "ends with Record Not Found exactly when no ID on the whole ring matches with a good CRC, or the first such ID to pass
+  -- "It ends with Record Not Found exactly when no ID on the whole ring matches with a good CRC, or the first such ID to pass
   -- whole after settling has no data mark in its window"
   pub exactly :
       (l : Lines)
       → (notFound (at (s .host) (loaded s) n .machine) l ≡ true)
       ↔ ((OnRing s → ⊥) ⊎ ((k : ℕ) × FirstWhole s k × (MarkInWindow s k → ⊥)))
-  -- "Counted after settling it ends within L + 1,078 byte times where such an ID exists"
+  -- "Counted after settling, it ends within L + 1,078 byte times where such an ID exists"
   pub found : OnRing s → n ≤ settling s + (length (s .row) + 1078)
   -- "and at the fifth index pulse, within 5L, where none does"
   pub lost : (OnRing s → ⊥) → (k : ℕ) × FifthPulse s k × (n ≡ settling s + suc k) × (suc k ≤ 5 * length (s .row))

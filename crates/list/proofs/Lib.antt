@@ -3,5 +3,6 @@ pub mod Putting
 pub mod Rounds
 pub mod Printing
 pub mod Stepping
+pub mod Running
 pub mod Complete
 pub mod Pictures

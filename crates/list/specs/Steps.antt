@@ -3,7 +3,7 @@
 use mathlib.Core.Path.{_≡_}
 use mathlib.Core.Bool.{Bool, true, cond, _&&_}
 use mathlib.Core.List.{List, []}
-use Prim.Native.Nat.{ℕ, _-_}
+use Prim.Native.Nat.{ℕ, _+_, _-_}
 use lib.Dec.{eqb}
 use lib.ListN.{length, take}
 use lib.Seq.{sets}
@@ -16,17 +16,26 @@ use Rattle.list.specs.Listing.{pictureText, isRefused}
 unfoldable pub stepText : Bool → List ℕ → List ℕ → List ℕ
 stepText listed bytes room = cond (eqb (length bytes) 0 && listed) [] (pictureText bytes room)
 
--- the run goes on after the picture's bytes; "A refusal .. ends the run", and so does the input's end
-unfoldable pub nextRun : List ℕ → ℕ → Run
-nextRun bytes room =
-    record { held = length bytes - readerAnswer bytes room .taken; listed = true; over = isRefused bytes room }
+-- the run goes on after the picture's bytes; "A refusal .. ends the run", and so does the input's end. So many bytes are
+-- written by then.
+unfoldable pub nextRun : List ℕ → ℕ → ℕ → Run
+nextRun bytes room written =
+    record {
+      held = length bytes - readerAnswer bytes room .taken;
+      listed = true;
+      over = isRefused bytes room;
+      written = written;
+    }
 
--- a step from a run, with the bytes held, the room and the output, to the next run and what these hold then
+-- a step from a run, with the bytes held, the room and the output, to the next run and what these hold then. The text that is
+-- printed stands at the output's start, and as many bytes as it has are handed to the C library.
 pub record Stepped (run : Run) (bytes room out : List ℕ) (next : Run) (bytes′ room′ out′ : List ℕ) : Type 0 where
   pub filled : List ℕ
   pub held : ℕ
   pub fills : Filled bytes (run .held) filled held
-  pub goes : next ≡ nextRun (take held filled) (length room)
+  pub printed : List ℕ
+  pub says : printed ≡ stepText (run .listed) (take held filled) room
+  pub goes : next ≡ nextRun (take held filled) (length room) (run .written + length printed)
   pub left : bytes′ ≡ moved filled (readerAnswer (take held filled) (length room) .taken) (next .held)
   pub cells : room′ ≡ readerRoom (take held filled) room
-  pub text : out′ ≡ sets out 0 (stepText (run .listed) (take held filled) room)
+  pub text : out′ ≡ sets out 0 printed

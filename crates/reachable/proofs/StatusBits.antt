@@ -1,5 +1,5 @@
--- Bits 4 and 0 of the status byte that a read hands back, of either type and under any lines: the flag of that name, and
--- Busy. Assumes nothing.
+-- The bits of the status byte that a read hands back, under any lines: of either type 4, 3 and 0, the flags of these names and
+-- Busy; of Types II and III 6, 5 and 2, protected, deleted mark and Lost Data. Assumes nothing.
 use mathlib.Core.Path.{_≡_, refl, ap, _∙_}
 use mathlib.Core.Bool.{Bool, true, false, cond, not, _&&_}
 use Prim.Native.Nat.{ℕ, _+_, _*_, _/_, _%_, _≤_}
@@ -67,6 +67,35 @@ module _ (ready missing crc busy a b c d : Bool) where
   zeroth : eqb (bits / 1 % 2) 1 ≡ busy
   zeroth = ap (λ (n : ℕ). eqb n 1) lowest ∙ one-bit busy
 
+  lower : low ≡ one crc * 8 + one c * 4 + (bitFor d 0x02 + bitFor busy 0x01)
+  lower = omega (arith, bit-one c 0x04 .0, bit-one crc 0x08 .0)
+
+  third : bits / 4 % 2 ≡ one c
+  third =
+      omega (arith, sorted, lower, bit-one c 0x04 .1, bit-one d 0x02, bit-one busy 0x01)
+
+  two : eqb (bits / 4 % 2) 1 ≡ c
+  two = ap (λ (n : ℕ). eqb n 1) third ∙ one-bit c
+
+  fourth : bits / 8 % 2 ≡ one crc
+  fourth =
+      omega (arith, sorted, lower, bit-one crc 0x08 .1, bit-one c 0x04 .1, bit-one d 0x02, bit-one busy 0x01)
+
+  three : eqb (bits / 8 % 2) 1 ≡ crc
+  three = ap (λ (n : ℕ). eqb n 1) fourth ∙ one-bit crc
+
+  seventh : bits / 64 % 2 ≡ one a
+  seventh = omega (arith, sorted, low-most, bit-one missing 0x10 .1, bit-one a 0x40 .1, bit-one b 0x20 .1)
+
+  six : eqb (bits / 64 % 2) 1 ≡ a
+  six = ap (λ (n : ℕ). eqb n 1) seventh ∙ one-bit a
+
+  sixth : bits / 32 % 2 ≡ one b
+  sixth = omega (arith, sorted, low-most, bit-one missing 0x10 .1, bit-one a 0x40 .1, bit-one b 0x20 .1)
+
+  five : eqb (bits / 32 % 2) 1 ≡ b
+  five = ap (λ (n : ℕ). eqb n 1) sixth ∙ one-bit b
+
 -- what holds of the byte of either type, with all its bits, holds of the status
 either :
     (P : ℕ → Type 0) (m : Machine) (l : Lines)
@@ -90,6 +119,41 @@ status-four m l v =
     rw (read-byte m l v)
     (either (λ n. eqb (n / 16 % 2) 1 ≡ m .flags .missing) m l
     (λ a b c d. four (not (l .ready)) (m .flags .missing) (m .flags .crc) (busyIn (m .activity)) a b c d))
+
+-- "3 CRC"
+pub status-crc : (m : Machine) (l : Lines) → Valid m → bitOf (readRegister m l 0 .byte) 3 ≡ m .flags .crc
+unfolding bitOf
+status-crc m l v =
+    rw (read-byte m l v)
+    (either (λ n. eqb (n / 8 % 2) 1 ≡ m .flags .crc) m l
+    (λ a b c d. three (not (l .ready)) (m .flags .missing) (m .flags .crc) (busyIn (m .activity)) a b c d))
+
+-- "6 protected": of Types II and III
+pub status-protected :
+    (m : Machine) (l : Lines) → Valid m → m .flags .type1 ≡ false → bitOf (readRegister m l 0 .byte) 6 ≡ m .flags .protected
+unfolding bitOf statusOf statusFrom typeBits
+status-protected m l v type2 =
+    rw (read-byte m l v, type2)
+    (six (not (l .ready)) (m .flags .missing) (m .flags .crc) (busyIn (m .activity)) (m .flags .protected) (m .flags .deleted)
+    (m .flags .lost) (m .wires .drq))
+
+-- "5 .. deleted mark (read)": of Types II and III
+pub status-deleted :
+    (m : Machine) (l : Lines) → Valid m → m .flags .type1 ≡ false → bitOf (readRegister m l 0 .byte) 5 ≡ m .flags .deleted
+unfolding bitOf statusOf statusFrom typeBits
+status-deleted m l v type2 =
+    rw (read-byte m l v, type2)
+    (five (not (l .ready)) (m .flags .missing) (m .flags .crc) (busyIn (m .activity)) (m .flags .protected) (m .flags .deleted)
+    (m .flags .lost) (m .wires .drq))
+
+-- "2 .. Lost Data": of Types II and III
+pub status-lost :
+    (m : Machine) (l : Lines) → Valid m → m .flags .type1 ≡ false → bitOf (readRegister m l 0 .byte) 2 ≡ m .flags .lost
+unfolding bitOf statusOf statusFrom typeBits
+status-lost m l v type2 =
+    rw (read-byte m l v, type2)
+    (two (not (l .ready)) (m .flags .missing) (m .flags .crc) (busyIn (m .activity)) (m .flags .protected) (m .flags .deleted)
+    (m .flags .lost) (m .wires .drq))
 
 -- "0 Busy"
 pub status-busy : (m : Machine) (l : Lines) → Valid m → bitOf (readRegister m l 0 .byte) 0 ≡ busyIn (m .activity)

@@ -219,12 +219,17 @@ module _ (m : Machine) (l : Lines) (limit : ℕ) (row : List ℕ) where
   run-rows P two three four j (run-4 n comes c) = four n comes c
 
   -- refused before its first byte time
-  refused-safe : (number : ℕ) → number < 4
+  refused-safe : (number : ℕ) → 0 < number → number < 4
       → Given (AtRun m l limit row) number
       → SafeRun m l limit row (at (emptyRun number m) row)
   unfolding emptyRun
-  refused-safe number early given =
-      record { given = given; refused = λ h. (refl, refl, refl); stopped = λ e. absurd (omega arith) }
+  refused-safe number some early given =
+      record {
+        given = given;
+        refused = λ h. record { machine = refl; untouched = refl; passed = refl; inward = refl; outward = refl };
+        done = λ e. absurd (omega arith);
+        stopped = λ e. absurd (omega arith);
+      }
 
   module _ (v : Valid m) (same : length row ≡ m .ring .length) where
     -- a run that makes n byte times does not come to a cell above 511 before them
@@ -286,6 +291,7 @@ module _ (m : Machine) (l : Lines) (limit : ℕ) (row : List ℕ) where
           given = given;
           refused =
               ⊎-elim (λ e. absurd (not 2 (omega arith) (omega arith) e)) (λ e. absurd (not 3 (omega arith) (omega arith) e));
+          done = λ e. (made, counts);
           stopped =
               λ e.
               let h = halted (r .ran .tally .passed) (made .accepted) (made .quiet) (made .stops) e in
@@ -308,12 +314,12 @@ module _ (m : Machine) (l : Lines) (limit : ℕ) (row : List ℕ) where
           → SafeRun m l limit row (runFrom m l limit row)
       by false v same e =
           rw v
-          (refused-safe 2 (omega arith)
+          (refused-safe 2 (omega arith) (omega arith)
           (lowest (AtRun m l limit row) 2 (omega arith) (run-2 (invalid m v))
           (run-rows (λ j. 2 ≤ j) (λ c. omega arith) (λ c. omega arith) (λ n comes c. omega arith))))
       by true v false e =
           rw (v, e)
-          (refused-safe 3 (omega arith)
+          (refused-safe 3 (omega arith) (omega arith)
           (lowest (AtRun m l limit row) 3 (omega arith) (run-3 (eqb-false _ _ e))
           (run-rows (λ j. 3 ≤ j) (λ c. absurd (valid m v c)) (λ c. omega arith) (λ n comes c. omega arith))))
       by true v true e =

@@ -16,7 +16,7 @@ use Rattle.wd.specs.declared.Passed.{Passed}
 use Rattle.wd.specs.Machines.{powerOn}
 use Rattle.wd.specs.Reads.{readRegister}
 use Rattle.wd.specs.Rows.{under, Run}
-use Rattle.reachable.specs.ByteTimes.{machineAfter, rowAfter, numberAfter, signals, Counts}
+use Rattle.reachable.specs.ByteTimes.{machineAfter, rowAfter, numberAfter, signals, Makes, Counts}
 use Rattle.reachable.specs.Limits.{EachCount, Within}
 
 -- ---- the conditions
@@ -141,7 +141,7 @@ pub record SafeRead (m : Machine) (number : ℕ) (r : Read) : Type 0 where
   pub given : Given (AtRead m number) (r .number)
   pub refused : (r .number ≡ 0 → ⊥) → (r .machine ≡ m) × (r .byte ≡ 0)
 
--- "as given, track untouched": "changes no cell in that byte time"
+-- "as given, track untouched": "changes no cell of a lent track in that byte time"
 pub record SafeByteTime (m : Machine) (row : List ℕ) (r : Passed) (row′ : List ℕ) : Type 0 where
   pub given : Given (AtByteTime m row) (r .number)
   pub refused : (r .number ≡ 0 → ⊥) → (r .machine ≡ m) × (row′ ≡ row)
@@ -155,8 +155,18 @@ pub record StoppedAt (m : Machine) (l : Lines) (limit : ℕ) (row : List ℕ) (n
   pub writes : r .row ≡ rowAfter n m l row
   pub counts : Counts m l row n (r .ran .tally)
 
+-- "as given, track untouched": no byte time has passed, so no step pulse has been given
+pub record RefusedRun (m : Machine) (row : List ℕ) (r : Run) : Type 0 where
+  pub machine : r .ran .machine ≡ m
+  pub untouched : r .row ≡ row
+  pub passed : r .ran .tally .passed ≡ 0
+  pub inward : r .ran .tally .inward ≡ 0
+  pub outward : r .ran .tally .outward ≡ 0
+
 pub record SafeRun (m : Machine) (l : Lines) (limit : ℕ) (row : List ℕ) (r : Run) : Type 0 where
   pub given : Given (AtRun m l limit row) (r .ran .number)
-  pub refused : (r .ran .number ≡ 2) ⊎ (r .ran .number ≡ 3)
-      → (r .ran .machine ≡ m) × (r .row ≡ row) × (r .ran .tally .passed ≡ 0)
+  pub refused : (r .ran .number ≡ 2) ⊎ (r .ran .number ≡ 3) → RefusedRun m row r
+  -- "A run call makes byte times .. It reports how many passed. It counts step pulses in and out too."
+  pub done : r .ran .number ≡ 0
+      → Makes m l limit row (r .ran .tally .passed) r × Counts m l row (r .ran .tally .passed) (r .ran .tally)
   pub stopped : r .ran .number ≡ 4 → StoppedAt m l limit row (r .ran .tally .passed) r

@@ -1,32 +1,38 @@
 -- A planned session is one that demand 2 speaks of: the write ends by itself, the read does by demand 3, and the track is as
--- asked. Assumes nothing.
+-- asked; and its hosts serve each DRQ. Assumes nothing.
 use mathlib.Core.Path.{_≡_, refl, sym, ap, _∙_}
 use mathlib.Core.Bool.{Bool, true, false, cond, _&&_, _||_}
 use mathlib.Core.List.{List, [], _∷_}
-use Prim.Native.Nat.{ℕ, zero, suc, _+_, _-_, _%_, _≤_, _<_}
+use Prim.Native.Nat.{ℕ, zero, suc, _+_, _%_, _≤_, _<_}
 use native.Mathlib.Nat.{mod-eq-of-lt}
 use native.Mathlib.Decide.{decLt}
 use native.Mathlib.Omega.{arith}
 use lib.Dec.{ltb, leb}
 use lib.ListN.{length, getD}
 use borrow.Author.Tests.{ltb-true, leb-true, eqb-true}
-use Rattle.common.proofs.Cases.{never, both}
+use Rattle.common.proofs.Cases.{by-cond, never, both}
 use Rattle.scan.specs.Marks.{leadOf}
 use Rattle.scan.specs.Streams.{MarkAt, behind, idWidth}
-use Rattle.command.specs.Commands.{decodedOf}
-use Rattle.activity.specs.Limits.{busyIn}
 use Rattle.fields.specs.Rings.{cellsOf}
 use Rattle.wd.specs.declared.Machine.{Machine}
 use Rattle.wd.specs.Loads.{loadRegister}
 use Rattle.reachable.proofs.Samples.{sampleLength, on}
-use Rattle.hosts.specs.Hosts.{commands, NoneAccepted, none, more, EndsAt}
-use Rattle.hosts.proofs.Idling.{stays-over}
+use Rattle.reachable.proofs.Valid.{load-valid}
+use Rattle.hosts.specs.Hosts.{commands, NoneAccepted, none, more, at, EndsAt}
+use Rattle.hosts.specs.Bytes.{taken}
+use Rattle.hosts.specs.Scenes.{loaded}
+use Rattle.hosts.proofs.Accepted.{accepted-valid}
 use Rattle.hosts.proofs.LowRows.{low-by}
 use Rattle.in_time.specs.Demand3.{Demand3}
 use Rattle.in_time.proofs.Demand3.{in-time}
-use Rattle.in_time.proofs.Scenes.{reader, scene-asked}
-use Rattle.exact.specs.Demand2.{Session, Commands, after, NoMark, clearCells, ReadBackPremises}
-use Rattle.witnesses.proofs.Plans.{Plan, writer, begun-by, passed-by, left-by, again, flagged-in, flags-of, Summary, summary, Computed}
+use Rattle.in_time.proofs.Scenes.{asked-by}
+use Rattle.exact.specs.Demand2.{Session, Commands, JustOne, after, NoMark, clearCells, ReadBackPremises}
+use Rattle.served.specs.Served.{loadsDr, readsDr, WriterServes, ReaderServes}
+use Rattle.witnesses.proofs.Walks.{stepFrom, walked-is}
+use Rattle.witnesses.proofs.LastBusy.{ends-after}
+use Rattle.witnesses.proofs.Polling.{polling, polling-alone, polling-ends, polling-serves}
+use Rattle.witnesses.proofs.ServesAll.{serves-all}
+use Rattle.witnesses.proofs.Plans.{Plan, asks-at, writer, begun-by, left-by, again, flagged-in, flags-of, Summary, summary, planned, Computed}
 
 flagged-at :
     (p many k : ℕ) (row : List ℕ)
@@ -57,49 +63,39 @@ unfolding flags-of leadOf
 flags-few false = (omega arith, omega arith)
 flags-few true = (omega arith, omega arith)
 
-no-command : (n : ℕ) (m : Machine) → NoneAccepted m (writer .calls n)
+no-command : (x : Plan) (n : ℕ) (m : Machine) → NoneAccepted m (writer x .calls n)
 unfolding commands
-no-command n m = more refl none
+no-command x n m = by-cond (NoneAccepted m) (asks-at x n) (λ e. more refl none) (λ e. none)
 
 module _ (x : Plan) (c : Computed x) where
   abbrev mfm : Bool
   mfm = x .machine .mfm
 
-  -- Busy goes off after its last byte time, so it was on before
-  ends : EndsAt writer (begun-by x) (suc (x .last))
-  unfolding summary
-  ends =
-      record {
-        busy = λ k l. by k l (busyIn (passed-by x k .activity)) refl;
-        over = ap (λ (e : Summary). e .busy) (c .ended);
-      }
-    where
-      by : (k : ℕ)
-          → k < suc (x .last)
-          → (busy : Bool)
-          → busyIn (passed-by x k .activity) ≡ busy
-          → busyIn (passed-by x k .activity) ≡ true
-      by k l true e = e
-      by k l false e =
-          let q : k + (x .last - k) ≡ x .last = omega arith in
-          let z : true ≡ false =
-          sym (c .goes)
-          ∙ ap (λ (i : ℕ). busyIn (passed-by x i .activity)) (sym q)
-          ∙ stays-over writer (begun-by x) k (x .last - k) (λ n i. no-command n _) e in
-          never (cc)
+  -- the write's end, by the host and not by the walk
+  pub ended :
+      summary x (record { desk = at (writer x) (begun-by x) (x .last); took = taken (writer x) (begun-by x) (x .last) })
+      ≡ planned x
+  ended = ap (summary x) (sym (walked-is (writer x) (begun-by x) (x .last))) ∙ c .ended
 
-  accepted-again : loadRegister (left-by x .machine) on 0 0x80 .number ≡ 0
-  unfolding summary
-  accepted-again = ap (λ (e : Summary). e .number) (c .ended)
+  ends : EndsAt (writer x) (begun-by x) (suc (x .last))
+  unfolding summary stepFrom at
+  ends =
+      ends-after (writer x) (begun-by x) (x .last) (no-command x)
+      (ap (λ (e : Summary). e .goes) ended)
+      (ap (λ (e : Summary). e .busy) ended)
+
+  accepted-again : loadRegister (left-by x .machine) on 0 (x .byte-then) .number ≡ 0
+  unfolding summary stepFrom at
+  accepted-again = ap (λ (e : Summary). e .number) ended
 
   -- demand 3: the Read Sector ends by itself
   pub read-ends : Demand3 (again x)
-  unfolding summary
+  unfolding summary stepFrom at
   read-ends =
       in-time (again x)
-      (scene-asked (left-by x .machine) (left-by x .row) accepted-again
-      (eqb-true _ _ (ap (λ (e : Summary). e .whole) (c .ended)))
-      (low-by (left-by x .row) (ap (λ (e : Summary). e .cells) (c .ended))))
+      (asked-by (x .byte-then) (left-by x .machine) (left-by x .row) (c .reads) (c .same-m ∙ c .single) accepted-again
+      (eqb-true _ _ (ap (λ (e : Summary). e .whole) ended))
+      (low-by (left-by x .row) (ap (λ (e : Summary). e .cells) ended)))
 
   abbrev pub session : Session
   session =
@@ -108,17 +104,17 @@ module _ (x : Plan) (c : Computed x) where
         lines = on;
         byte = x .byte;
         track = x .track;
-        writer = writer;
+        writer = writer x;
         written = suc (x .last);
         waited = suc (x .last);
         lines-then = on;
-        byte-then = 0x80;
-        reader = reader;
+        byte-then = x .byte-then;
+        reader = polling (loaded (again x));
         read = read-ends .0;
       }
 
   two-commands : Commands session
-  unfolding summary decodedOf commands
+  unfolding summary stepFrom at
   two-commands =
       record {
         dr = ltb-true _ _ (c .dr);
@@ -128,22 +124,22 @@ module _ (x : Plan) (c : Computed x) where
         ready = refl;
         ends = ends;
         fine = record {
-          protected = ap (λ (e : Summary). e .protected) (c .ended);
-          missing = ap (λ (e : Summary). e .missing) (c .ended);
-          crc = ap (λ (e : Summary). e .crc) (c .ended);
-          lost = ap (λ (e : Summary). e .lost) (c .ended);
+          protected = ap (λ (e : Summary). e .protected) ended;
+          missing = ap (λ (e : Summary). e .missing) ended;
+          crc = ap (λ (e : Summary). e .crc) ended;
+          lost = ap (λ (e : Summary). e .lost) ended;
         };
-        next = λ n l. no-command n _;
-        reads = refl;
-        same-tr = ap (λ (e : Summary). e .tr) (c .ended);
-        same-sr = ap (λ (e : Summary). e .sr) (c .ended);
+        next = λ n l. no-command x n _;
+        reads = c .reads;
+        same-tr = ap (λ (e : Summary). e .tr) ended;
+        same-sr = ap (λ (e : Summary). e .sr) ended;
         same-m = c .same-m;
         same-e = c .same-e;
         same-side = c .same-side;
         accepted-then = accepted-again;
         ready-then = refl;
-        alone = λ n l. more refl (more refl none);
-        ends-then = read-ends .1;
+        alone = λ n l. polling-alone (loaded (again x)) n;
+        ends-then = polling-ends (loaded (again x)) (read-ends .0) (read-ends .1);
       }
 
   -- ---- the track
@@ -197,7 +193,7 @@ module _ (x : Plan) (c : Computed x) where
           let here = flag-place (behind mfm (x .p) + i) (omega (arith, place-short, few .1)) (omega arith) in
           absurd (omega (arith, here .1, few .0))
 
-  no-mark : NoMark mfm (after mfm (x .track) (x .p)) (clearCells mfm)
+  pub no-mark : NoMark (x .machine .mfm) (after (x .machine .mfm) (x .track) (x .p)) (clearCells (x .machine .mfm))
   unfolding clearCells
   no-mark a b l m =
       let first = mark-flags mfm (after mfm (x .track) (x .p)) a b m in
@@ -209,16 +205,27 @@ module _ (x : Plan) (c : Computed x) where
       clear-few false = omega arith
       clear-few true = omega arith
 
-  pub asked : ReadBackPremises session (x .p)
-  asked =
+  pub just-one : JustOne (x .machine .mfm) (x .track) (x .machine .regs .tr) (x .machine .regs .sr) (x .p)
+  just-one =
       record {
-        commands = two-commands;
-        just-one = record {
-          inside = omega (arith, c .wide, place-short);
-          stands = record { mark = c .mark; plain = λ i l. plain-behind i (omega arith) };
-          of-track = c .of-track;
-          of-sector = c .of-sector;
-          only = λ q l id track sector. only-place q (omega (arith, c .wide)) (id .mark);
-        };
-        no-mark = no-mark;
+        inside = omega (arith, c .wide, place-short);
+        stands = record { mark = c .mark; plain = λ i l. plain-behind i (omega arith) };
+        of-track = c .of-track;
+        of-sector = c .of-sector;
+        only = λ q l id track sector. only-place q (omega (arith, c .wide)) (id .mark);
       }
+
+  pub asked : ReadBackPremises session (x .p)
+  asked = record { commands = two-commands; just-one = just-one; no-mark = no-mark }
+
+  -- ---- the hosts
+
+  pub writer-serves : WriterServes session
+  writer-serves = serves-all loadsDr readsDr (writer x) (begun-by x) (suc (x .last)) (c .serves)
+
+  pub reader-serves : ReaderServes session
+  reader-serves =
+      polling-serves (loaded (again x))
+      (load-valid (left-by x .machine) on 0 (x .byte-then)
+      (accepted-valid (left-by x .machine) on (x .byte-then) accepted-again))
+      (read-ends .0)

@@ -10,7 +10,7 @@ use lib.ListN.{length}
 use Rattle.scan.specs.Streams.{MarkAt, idFrom}
 use Rattle.command.specs.Bits.{isMultiple, settlesFirst, sideAsked}
 use Rattle.command.specs.Commands.{decodedOf}
-use Rattle.command.specs.declared.Command.the-variants.{WriteSector}
+use Rattle.command.specs.declared.Command.the-variants.{ReadSector, WriteSector}
 use Rattle.command.specs.declared.Decoded.the-variants.{Taken}
 use Rattle.activity.specs.Limits.{busyIn}
 use Rattle.fields.specs.Rings.{cellsOf}
@@ -20,35 +20,50 @@ use Rattle.reachable.proofs.Samples.{sampleLength, on}
 use Rattle.hosts.specs.Hosts.{loads, Host, Desk, servedAt, at}
 use Rattle.hosts.specs.Scenes.{Scene}
 use Rattle.hosts.proofs.LowRows.{allLow}
-use Rattle.in_time.proofs.Scenes.{sceneOf}
+use Rattle.in_time.proofs.Scenes.{sceneBy}
+use Rattle.served.specs.Served.{loadsDr, readsDr}
+use Rattle.witnesses.proofs.Walks.{Walk, stepFrom, walked}
+use Rattle.witnesses.proofs.ServesAll.{serves-from}
 
--- a machine and its Write Sector, the track with its ID from cell p on, and the last byte time in which the write is Busy
+-- a machine, its Write Sector and its Read Sector, the track with its ID from cell p on, the byte time before which the first
+-- of 128 bytes is loaded and that in which the first data cell passes, the last byte time in which the write is Busy, and the
+-- bytes that it takes
 pub record Plan : Type 0 where
   pub machine : Machine
   pub byte : ℕ
+  pub byte-then : ℕ
   pub track : List ℕ
   pub p : ℕ
+  pub first : ℕ
+  pub cell : ℕ
   pub last : ℕ
+  pub bytes : List ℕ
 
-pub dr-byte : (n : ℕ) → n % 256 < 256
-dr-byte n = mod-lt n (omega arith)
+-- DRQ is on before byte time n: for the first byte, and after each data cell but the last
+abbrev pub asks-at : Plan → ℕ → Bool
+asks-at x n = eqb n (x .first) || (ltb (x .cell) n && ltb n (x .cell + 128))
 
-abbrev pub writer : Host
-writer = record { calls = λ n. loads on 3 (n % 256) (dr-byte n) ∷ []; lines = λ n. on }
+-- the byte that is loaded then: the number of the byte time whose cell takes it, modulo 256
+abbrev pub byte-at : Plan → ℕ → ℕ
+byte-at x n = cond (ltb n (x .cell)) (x .cell) n % 256
 
--- after the acceptance of the Write Sector, as so many byte times have passed, and what the Read Sector finds
+pub byte-low : (x : Plan) (n : ℕ) → byte-at x n < 256
+byte-low x n = mod-lt (cond (ltb n (x .cell)) (x .cell) n) (omega arith)
+
+-- it loads DR where DRQ is on
+abbrev pub writer : Plan → Host
+writer x = record { calls = λ n. cond (asks-at x n) (loads on 3 (byte-at x n) (byte-low x n) ∷ []) []; lines = λ n. on }
+
+-- after the acceptance of the Write Sector, and what the Read Sector finds
 abbrev pub begun-by : Plan → Desk
 begun-by x = record { machine = loadRegister (x .machine) on 0 (x .byte) .machine; row = x .track }
 
-abbrev pub passed-by : Plan → ℕ → Machine
-passed-by x n = at writer (begun-by x) n .machine
-
 abbrev pub left-by : Plan → Desk
-left-by x = servedAt writer (suc (x .last)) (at writer (begun-by x) (suc (x .last)))
+left-by x = servedAt (writer x) (suc (x .last)) (at (writer x) (begun-by x) (suc (x .last)))
 
 -- the Read Sector as demand 3 speaks of it
 abbrev pub again : Plan → Scene
-again x = sceneOf (left-by x .machine) (left-by x .row)
+again x = sceneBy (x .byte-then) (left-by x .machine) (left-by x .row)
 
 -- the flagged cells of a row that begins at place k stand from p on, at most so many
 unfoldable pub flagged-in : (p many k : ℕ) → List ℕ → Bool
@@ -59,9 +74,10 @@ flagged-in p many k (cell ∷ cells) = (ltb cell 256 || (leb p k && ltb k (p + m
 unfoldable pub flags-of : Bool → ℕ
 flags-of mfm = cond mfm 3 1
 
--- what is asked of the machine and the row as the write has ended: Busy, the error bits, TR and SR, the Read Sector's number,
--- and a row of the ring's length with low cells
+-- what is asked of the machine and the row as the write ends: Busy before its last byte time and after it, the error bits, TR
+-- and SR, the Read Sector's number, a row of the ring's length with low cells, and the bytes taken
 pub record Summary : Type 0 where
+  pub goes : Bool
   pub busy : Bool
   pub protected : Bool
   pub missing : Bool
@@ -72,23 +88,43 @@ pub record Summary : Type 0 where
   pub number : ℕ
   pub whole : Bool
   pub cells : Bool
+  pub took : List ℕ
 
-abbrev pub found-by : ℕ → Desk → Desk
-found-by n d = servedAt writer n d
-
-unfoldable pub summary : ℕ → Desk → Summary
-summary n d =
+unfoldable pub summary : Plan → Walk → Summary
+summary x w =
+    let over = stepFrom (writer x) (x .last) w in
+    let found = servedAt (writer x) (suc (x .last)) (over .desk) in
     record {
-      busy = busyIn (d .machine .activity);
-      protected = d .machine .flags .protected;
-      missing = d .machine .flags .missing;
-      crc = d .machine .flags .crc;
-      lost = d .machine .flags .lost;
-      tr = found-by n d .machine .regs .tr;
-      sr = found-by n d .machine .regs .sr;
-      number = loadRegister (found-by n d .machine) on 0 0x80 .number;
-      whole = eqb (length (found-by n d .row)) (found-by n d .machine .ring .length);
-      cells = allLow (found-by n d .row);
+      goes = busyIn (w .desk .machine .activity);
+      busy = busyIn (over .desk .machine .activity);
+      protected = over .desk .machine .flags .protected;
+      missing = over .desk .machine .flags .missing;
+      crc = over .desk .machine .flags .crc;
+      lost = over .desk .machine .flags .lost;
+      tr = found .machine .regs .tr;
+      sr = found .machine .regs .sr;
+      number = loadRegister (found .machine) on 0 (x .byte-then) .number;
+      whole = eqb (length (found .row)) (found .machine .ring .length);
+      cells = allLow (found .row);
+      took = over .took;
+    }
+
+-- what it is to be
+abbrev pub planned : Plan → Summary
+planned x =
+    record {
+      goes = true;
+      busy = false;
+      protected = false;
+      missing = false;
+      crc = false;
+      lost = false;
+      tr = x .machine .regs .tr;
+      sr = x .machine .regs .sr;
+      number = 0;
+      whole = true;
+      cells = true;
+      took = x .bytes;
     }
 
 -- what computes
@@ -97,24 +133,12 @@ pub record Computed (x : Plan) : Type 0 where
   pub writes : decodedOf (x .byte) ≡ Taken WriteSector
   pub single : isMultiple (x .byte) ≡ false
   pub accepted : loadRegister (x .machine) on 0 (x .byte) .number ≡ 0
-  pub goes : busyIn (passed-by x (x .last) .activity) ≡ true
-  pub ended :
-      summary (suc (x .last)) (at writer (begun-by x) (suc (x .last)))
-      ≡ record {
-        busy = false;
-        protected = false;
-        missing = false;
-        crc = false;
-        lost = false;
-        tr = x .machine .regs .tr;
-        sr = x .machine .regs .sr;
-        number = 0;
-        whole = true;
-        cells = true;
-      }
-  pub same-m : isMultiple 0x80 ≡ isMultiple (x .byte)
-  pub same-e : settlesFirst 0x80 ≡ settlesFirst (x .byte)
-  pub same-side : sideAsked 0x80 ≡ sideAsked (x .byte)
+  pub ended : summary x (walked (writer x) (begun-by x) (x .last)) ≡ planned x
+  pub serves : serves-from loadsDr readsDr (writer x) (suc (x .last)) 0 (begun-by x) ≡ true
+  pub reads : decodedOf (x .byte-then) ≡ Taken ReadSector
+  pub same-m : isMultiple (x .byte-then) ≡ isMultiple (x .byte)
+  pub same-e : settlesFirst (x .byte-then) ≡ settlesFirst (x .byte)
+  pub same-side : sideAsked (x .byte-then) ≡ sideAsked (x .byte)
   pub wide : length (x .track) ≡ sampleLength
   pub short : leb (x .p) 2000 ≡ true
   pub flags : flagged-in (x .p) (flags-of (x .machine .mfm)) 0 (x .track) ≡ true

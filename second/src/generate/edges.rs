@@ -41,6 +41,8 @@ impl Generator {
             head + 1,
             head + length - 1,
             head + length - 1,
+            head + length - 1,
+            head + length - 1,
             near_end,
             near_end,
             anywhere,

@@ -106,6 +106,26 @@ impl Generator {
         }
     }
 
+    /// What a condition waits for, twice: Ready going off and coming on, or the index pulse. What
+    /// is refused in between makes no difference.
+    pub fn edges_scene(&mut self) {
+        self.set_wires(READY | HEAD_LOADED);
+        self.byte_time();
+        let byte = self.random.pick(&[0xD1, 0xD2, 0xD3, 0xD4, 0xD9]);
+        self.load(0, byte);
+        for _ in 0..4 {
+            self.put_head(0);
+            self.toggle(READY);
+            match self.random.below(4) {
+                0 => self.refuse_cell_under_head(),
+                1 => self.refuse_byte(),
+                _ => {}
+            }
+            self.byte_time();
+            self.read(0);
+        }
+    }
+
     /// An idle machine under the conditions of some Force Interrupt.
     pub fn waiting_scene(&mut self) {
         for _ in 0..self.random.between(1, 4) {

@@ -83,9 +83,18 @@ impl Generator {
         }
     }
 
+    /// 3 comes before 4, so a cell above 511 under the head makes no difference.
     fn lend_wrongly(&mut self, before: &str, after: &str) {
         self.say(before.to_string());
-        self.byte_time();
+        let head = usize::from(self.bench.machine.position);
+        let cell = self.bench.current.get(head).copied();
+        if let Some(cell) = cell.filter(|_| self.random.one_in(2)) {
+            self.set_cells(head, &[LARGEST_CELL + 1]);
+            self.byte_time();
+            self.set_cells(head, &[cell]);
+        } else {
+            self.byte_time();
+        }
         let limit = self.random.pick(&[0, 1, NO_LIMIT]);
         self.go(limit);
         self.say(after.to_string());
@@ -109,6 +118,15 @@ impl Generator {
         }
     }
 
+    /// A byte time that 4 refuses sees nothing.
+    pub fn refuse_cell_under_head(&mut self) {
+        let head = usize::from(self.bench.machine.position);
+        let cell = self.bench.current[head];
+        self.set_cells(head, &[LARGEST_CELL + 1]);
+        self.byte_time();
+        self.set_cells(head, &[cell]);
+    }
+
     /// 5: a register number above 3.
     fn refuse_register(&mut self) {
         let register = self.random.between(4, 255) as u8;
@@ -121,12 +139,13 @@ impl Generator {
     }
 
     /// 6 while Busy, 7 while idle.
-    fn refuse_byte(&mut self) {
+    pub fn refuse_byte(&mut self) {
         if self.is_busy() {
-            let register = self.random.pick(&[0, 1, 2]);
+            let register = self.random.pick(&[0, 0, 1, 2]);
             let byte = self.random.byte();
             // Of the command bytes D0-DF alone are taken; this leaves none of them.
-            self.load(register, byte & 0x8F);
+            let is_taken = Command::decode(byte).map_or(false, Command::forces);
+            self.load(register, if is_taken { byte ^ 0x80 } else { byte });
         } else {
             let byte = self.random.pick(&no_commands());
             self.load(0, byte);

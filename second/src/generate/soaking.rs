@@ -1,7 +1,8 @@
 // The scenes of a soak, and Write Track by a host that comes often.
 
-use super::timing::RECORDS;
-use super::{forcing, Generator, HEAD_LOADED, READY};
+use super::timing::{BEGINNINGS, RECORDS};
+use super::turns::SHORT_SCENES;
+use super::{accepting, forcing, Generator, HEAD_LOADED, READY};
 
 /// The longest run of a host that looks at DRQ often.
 const SHORT_RUN: usize = 4;
@@ -22,7 +23,7 @@ impl Generator {
     /// Most scenes are long waits, the others of every kind. Whole tracks are formatted here
     /// alone, since that takes thousands of lines.
     pub fn soaking_scene(&mut self) {
-        match self.random.below(80) {
+        match self.random.below(88) {
             0 => self.new_ring(),
             1 => {
                 let rounds = 3 * self.plan.length;
@@ -39,7 +40,18 @@ impl Generator {
                 let pair = self.random.pick(&forcing::pairs());
                 self.forcing_scene(pair);
             }
-            27..=30 => self.beginning_scene(),
+            27..=30 => {
+                let byte = self.random.pick(&BEGINNINGS);
+                self.beginning_scene(byte);
+            }
+            31..=34 => {
+                let loading = self.random.pick(&accepting::loadings());
+                self.loading_scene(loading);
+            }
+            35..=38 => {
+                let scene = self.random.pick(&SHORT_SCENES);
+                scene(self);
+            }
             _ => self.stretching_scene(),
         }
     }

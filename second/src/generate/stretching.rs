@@ -45,7 +45,7 @@ impl Generator {
     /// An idle machine under the conditions of a Force Interrupt, at times with DRQ left on by a
     /// Write Track that was ended.
     fn idle_stretch(&mut self) {
-        if self.random.one_in(32) {
+        if self.random.one_in(24) {
             self.longest_run();
         }
         self.set_the_scene(0);
@@ -165,7 +165,7 @@ impl Generator {
     fn make_runs(&mut self, runs: usize) {
         let began_busy = self.is_busy();
         for _ in 0..runs {
-            if self.random.one_in(4) {
+            if self.random.one_in(3) {
                 self.run_to_obstacle();
             } else {
                 let limit = self.edge_limit();

@@ -1,13 +1,17 @@
-// Scenes whose outcome hangs on a single byte time, and chains of sectors for m.
+// Scenes whose outcome hangs on a single byte time.
 
 use super::serving::Host;
 use super::{Generator, Sector, HEAD_LOADED, READY};
+use crate::activity::Activity;
 
 /// Commands whose search begins with a byte time that a scene can reckon: Types II and III with E
 /// and without, and Seek with V from the right track.
-const BEGINNINGS: [u8; 12] = [
+pub const BEGINNINGS: [u8; 12] = [
     0x80, 0xA0, 0xC0, 0x84, 0xA4, 0xC4, 0xE0, 0xF0, 0xE4, 0xF4, 0x14, 0x1C,
 ];
+
+/// Those of them that settle.
+pub const SETTLINGS: [u8; 8] = [0x84, 0x14, 0xA4, 0x1C, 0xC4, 0x14, 0xF4, 0x1C];
 
 /// Commands and length codes; the long records are rarer, since each byte takes two lines.
 pub const RECORDS: [(u8, u8); 16] = [
@@ -57,8 +61,7 @@ impl Generator {
 
     /// The head stands so that the search begins with the first cell of an ID, or a track command
     /// with the index pulse; or with the cell before it, or the cell after it.
-    pub fn beginning_scene(&mut self) {
-        let byte = self.random.pick(&BEGINNINGS);
+    pub fn beginning_scene(&mut self, byte: u8) {
         let for_index = matches!(byte, 0xE0 | 0xE4 | 0xF0 | 0xF4);
         let place = if for_index {
             self.plan.length
@@ -72,7 +75,7 @@ impl Generator {
         }
         self.load(3, self.plan.track);
         self.set_wires(READY | HEAD_LOADED);
-        let off = self.random.pick(&[0, 0, 1, 2]);
+        let off = self.random.pick(&[0, 0, 1, 1, 2]);
         let before = self.byte_times_before_search(byte);
         self.put_head(place + self.plan.length + 1 - off - before);
         if self.random.one_in(3) {
@@ -80,8 +83,19 @@ impl Generator {
         } else {
             self.load(0, byte);
         }
+        if self.random.one_in(3) {
+            self.go(before + 1);
+            self.lose_head();
+        }
         self.serve(Host::Prompt, 12);
         self.end_command();
+    }
+
+    /// HLT goes off once the command has begun, and is not looked at again.
+    fn lose_head(&mut self) {
+        if !matches!(self.bench.machine.activity, Activity::Settling(_)) {
+            self.toggle(HEAD_LOADED);
+        }
     }
 
     /// Byte times that pass before the first one of the search: settling, and for a verify the
@@ -95,12 +109,12 @@ impl Generator {
         }
     }
 
-    /// HLT comes on just as the settling ends.
+    /// HLT comes on just as the settling ends, or one byte time before or after.
     fn begin_with_head_late(&mut self, byte: u8, before: usize) {
         self.set_wires(READY);
         self.load(0, byte);
-        let early = self.random.below(2).min(before);
-        self.go(before - early);
+        let around = self.random.below(4);
+        self.go((before + around).saturating_sub(1));
         self.set_wires(READY | HEAD_LOADED);
     }
 
@@ -127,37 +141,7 @@ impl Generator {
         }
         let byte = self.random.byte();
         self.load(3, byte);
-        self.serve(Host::Slow, 60);
-        self.end_command();
-    }
-
-    /// Sectors one after the other with either mark or no data mark, some with a bad data CRC,
-    /// read or written with m.
-    pub fn chain_scene(&mut self) {
-        let first: u8 = self.random.pick(&[1, 9, 254, 255]);
-        let place = self.random.below(self.plan.length);
-        for step in 0..3u8 {
-            let start = place + 200 * usize::from(step);
-            let sector = Sector {
-                mark: self.random.pick(&[0xFB, 0xFB, 0xF8, 0xF8, 0xFA]),
-                ..Sector::short(first.wrapping_add(step))
-            };
-            self.lay_sector(start, sector);
-            if self.random.one_in(3) {
-                let spoilt = (start + 100) % self.plan.length;
-                let cell = self.bench.current[spoilt] ^ 1;
-                self.set_cells(spoilt, &[cell]);
-            }
-        }
-        self.ask_for(first);
-        self.set_wires(READY | HEAD_LOADED);
-        self.put_head(place + self.plan.length - 5);
-        let byte = self.random.pick(&[0x90, 0x90, 0x92, 0xB0, 0xB1]);
-        self.load(0, byte);
-        let host = self
-            .random
-            .pick(&[Host::Prompt, Host::Prompt, Host::Absent]);
-        self.serve(host, 500);
+        self.serve(Host::Slow, 8);
         self.end_command();
     }
 }

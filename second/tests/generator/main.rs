@@ -1,15 +1,19 @@
 // What the generator's scripts are like, and that together they meet everything they should.
 
-mod coverage;
+mod met;
 mod runs;
 mod stretches;
 
-use coverage::Coverage;
+use std::collections::BTreeMap;
+
+use met::Met;
 use second::bench::{self, Bench};
 use second::command::Command;
 use second::generate;
 
 const SEEDS: u64 = 300;
+/// So many of them are many.
+const MANY: usize = 10;
 const ACTIVITIES: [&str; 11] = [
     "Idle",
     "Stepping",
@@ -34,6 +38,17 @@ const COMMANDS: [&str; 10] = [
     "ReadAddress",
     "ReadTrack",
     "WriteTrack",
+];
+/// INTRQ and a condition of a Force Interrupt.
+const WAITING: [&str; 8] = [
+    "0, no condition",
+    "0, index",
+    "0, Ready off",
+    "0, Ready on",
+    "1, no condition",
+    "1, index",
+    "1, Ready off",
+    "1, Ready on",
 ];
 /// Calls with the numbers that they answered.
 const ANSWERS: [&str; 19] = [
@@ -126,27 +141,53 @@ fn wanted() -> Vec<String> {
     keys
 }
 
+/// By key, how many of the seeds' scripts meet it.
+fn count(seeds: u64) -> BTreeMap<String, usize> {
+    let mut counts = BTreeMap::new();
+    for seed in 0..seeds {
+        let mut met = Met::default();
+        met.watch_script(Bench::new(), &generate::script(seed));
+        for key in met.keys() {
+            *counts.entry(key.clone()).or_insert(0) += 1;
+        }
+    }
+    counts
+}
+
+/// The keys that fewer scripts meet.
+fn met_by_fewer(keys: Vec<String>, scripts: usize) -> Vec<String> {
+    let counts = count(SEEDS);
+    let is_rare = |key: &String| counts.get(key).map_or(0, |&count| count) < scripts;
+    keys.into_iter().filter(is_rare).collect()
+}
+
 #[test]
 fn together_the_scripts_meet_everything_they_should() {
-    let mut coverage = Coverage::default();
-    for seed in 0..SEEDS {
-        coverage.watch_script(Bench::new(), &generate::script(seed));
-    }
-    let missing: Vec<String> = wanted()
-        .into_iter()
-        .filter(|key| !coverage.has(key))
-        .collect();
-    assert_eq!(missing, Vec::<String>::new());
+    assert_eq!(met_by_fewer(wanted(), 1), Vec::<String>::new());
+}
+
+/// Every command with DRQ, INTRQ and each condition off and on; and while Busy, when INTRQ and the
+/// conditions are off.
+fn loadings() -> Vec<String> {
+    let busy = (0..2).map(|drq| format!("while Busy, DRQ {}", drq));
+    let idle = (0..2).flat_map(|drq| WAITING.map(|it| format!("DRQ {}, INTRQ {}", drq, it)));
+    let states: Vec<String> = busy.chain(idle).collect();
+    let names = COMMANDS.into_iter().chain(["ForceInterrupt"]);
+    names
+        .flat_map(|name| states.iter().map(move |it| format!("{}, {}", name, it)))
+        .collect()
+}
+
+#[test]
+fn many_scripts_load_every_command_in_every_state() {
+    assert_eq!(met_by_fewer(loadings(), MANY), Vec::<String>::new());
 }
 
 #[test]
 fn the_scripts_meet_the_answers_of_the_viewer() {
-    let mut coverage = Coverage::default();
-    for seed in 0..60 {
-        coverage.watch_script(Bench::new(), &generate::script(seed));
-    }
+    let counts = count(60);
     for answer in ["Q 00", "Q 01", "Q 04", "Q 0B"] {
-        assert!(coverage.has(answer), "{}", answer);
+        assert!(counts.contains_key(answer), "{}", answer);
     }
 }
 

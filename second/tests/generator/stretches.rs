@@ -1,14 +1,14 @@
 // That the scripts put every edge in the way of a shortcut over uneventful byte times.
 
-use crate::coverage::Coverage;
+use crate::met::Met;
 use crate::runs::Runs;
 use second::bench::Bench;
 use second::command::Command;
 use second::generate;
 
 const SEEDS: u64 = 300;
-/// Half of what `./test long` soaks for.
-const SOAK_SEEDS: u64 = 25;
+/// As much as `./test long` soaks for.
+const SOAK_SEEDS: u64 = 50;
 const SOAK_BYTE_TIMES: u64 = 200_000;
 /// What a run may begin in and pass at once.
 const WAITS: [&str; 4] = ["Idle", "Settling", "Waiting", "Searching"];
@@ -96,10 +96,10 @@ fn a_soak_meets_every_edge() {
 
 #[test]
 fn a_soak_gives_every_command() {
-    let mut coverage = Coverage::default();
+    let mut met = Met::default();
     for seed in 0..SOAK_SEEDS {
         let long = generate::long_script(seed, SOAK_BYTE_TIMES);
-        coverage.watch_script(Bench::new(), &long.text);
+        met.watch_script(Bench::new(), &long.text);
     }
     let mut keys: Vec<String> = Vec::new();
     for byte in (0..=255).filter(|&byte| Command::decode(byte).is_some()) {
@@ -109,6 +109,6 @@ fn a_soak_gives_every_command() {
             _ => keys.push(format!("command {:02X}", byte)),
         }
     }
-    keys.retain(|key| !coverage.has(key));
+    keys.retain(|key| !met.has(key));
     assert_eq!(keys, Vec::<String>::new());
 }

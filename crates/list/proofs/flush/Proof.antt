@@ -5,14 +5,14 @@ use Rattle.list.proofs.flush.Statement.{statement}
 use borrow.Author.Needs.{needs}
 use Rattle.list.proofs.flush.Tie as tie
 
-slice-aggregate-write-all : tie.Need-slice-aggregate-write-all
-slice-aggregate-write-all c = sym (length-take-le _ _ (search needs))
+slice-aggregate-text : tie.Need-slice-aggregate-text
+slice-aggregate-text c = sym (length-take-le _ _ (search needs))
 
 write-all-requires : tie.Need-write-all-requires
 write-all-requires c κs = search needs
 
 returns : tie.Need-returns
-returns c = search needs
+returns c = length-take-le _ _ (search needs)
 
 pub flush-spec : {M : Type 1} → statement M
-flush-spec = tie.close (tie.spec slice-aggregate-write-all write-all-requires returns)
+flush-spec = tie.close (tie.spec slice-aggregate-text write-all-requires returns)

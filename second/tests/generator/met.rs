@@ -1,6 +1,6 @@
 // Watches scripts at work, byte time by byte time, and notes what was met.
 
-use std::collections::BTreeMap;
+use std::collections::BTreeSet;
 
 use second::activity::Activity;
 use second::bench::Bench;
@@ -14,8 +14,8 @@ use second::script::{self, Line, Parsed};
 use second::status::StatusType;
 
 #[derive(Default)]
-pub struct Coverage {
-    met: BTreeMap<String, usize>,
+pub struct Met {
+    keys: BTreeSet<String>,
 }
 
 /// What a byte time began with.
@@ -60,13 +60,17 @@ fn density_name(density: Density) -> &'static str {
     }
 }
 
-impl Coverage {
+impl Met {
     pub fn has(&self, key: &str) -> bool {
-        self.met.contains_key(key)
+        self.keys.contains(key)
+    }
+
+    pub fn keys(&self) -> impl Iterator<Item = &String> {
+        self.keys.iter()
     }
 
     fn note(&mut self, key: String) {
-        *self.met.entry(key).or_insert(0) += 1;
+        self.keys.insert(key);
     }
 
     /// Watches a script work this bench.
@@ -140,6 +144,9 @@ impl Coverage {
 
     fn note_command(&mut self, bench: &Bench, byte: u8) {
         let machine = &bench.machine;
+        if let Some(command) = Command::decode(byte) {
+            self.note_wires(machine, command);
+        }
         let activity = machine.activity.name();
         let density = density_name(machine.density);
         match Command::decode(byte) {
@@ -154,6 +161,23 @@ impl Coverage {
             }
             None if !machine.is_busy() => self.note(format!("no command {:02X}", byte)),
             _ => {}
+        }
+    }
+
+    /// What is on where a command is loaded. While Busy, INTRQ and all conditions are off.
+    fn note_wires(&mut self, machine: &Machine, command: Command) {
+        let name = command.name;
+        let drq = u8::from(machine.data_request);
+        if machine.is_busy() {
+            self.note(format!("{:?}, while Busy, DRQ {}", name, drq));
+            return;
+        }
+        let intrq = u8::from(machine.interrupt_request);
+        for condition in conditions_on(machine) {
+            self.note(format!(
+                "{:?}, DRQ {}, INTRQ {}, {}",
+                name, drq, intrq, condition
+            ));
         }
     }
 
@@ -267,6 +291,19 @@ impl Coverage {
             self.note(format!("mark past the window's end {}", density));
         }
     }
+}
+
+/// The conditions of a Force Interrupt that wait to be met.
+fn conditions_on(machine: &Machine) -> Vec<&'static str> {
+    let conditions = machine.conditions;
+    let mut on = Vec::new();
+    on.extend(Some("index").filter(|_| conditions.index));
+    on.extend(Some("Ready off").filter(|_| conditions.ready_goes_off));
+    on.extend(Some("Ready on").filter(|_| conditions.ready_comes_on));
+    if on.is_empty() {
+        on.push("no condition");
+    }
+    on
 }
 
 /// Whether the next cell to pass completes a data mark.

@@ -1,0 +1,107 @@
+-- Of one bad input of each call: its condition is met, and no earlier one. Assumes nothing.
+use mathlib.Core.Path.{_≡_, refl, sym, _∙_}
+use mathlib.Core.Bool.{Bool, true≢false}
+use mathlib.Core.List.{[]}
+use mathlib.Core.Logic.{inl, inr}
+use Prim.Native.Nat.{ℕ, _<_}
+use native.Mathlib.Omega.{arith}
+use lib.ListN.{length-replicate, getD-replicate}
+use Rattle.common.proofs.Cases.{never}
+use Rattle.scan.specs.Rows.{lengthWithin}
+use Rattle.command.specs.Commands.{decodedOf}
+use Rattle.command.specs.declared.Decoded.{Decoded}
+use Rattle.command.specs.declared.Decoded.the-variants.{NoCommand}
+use Rattle.activity.specs.Limits.{busyIn}
+use Rattle.registers.specs.declared.Lines.{Lines}
+use Rattle.wd.specs.Machines.{freshMachine, powerOn}
+use Rattle.reachable.proofs.Samples.{sampleLength}
+use Rattle.reachable.proofs.Valid.{power-on-valid}
+use Rattle.reachable.proofs.StatusBits.{status-busy}
+use Rattle.safe.specs.Demand1.{OutOfRange, Invalid, AboveFlagged, WhileBusy, IsCommand, Given, AtPowerOn, power-on-1, AtLoad, load-2, load-5, load-6, load-7, AtRead, read-2, read-5, AtByteTime, byte-time-2, byte-time-3, byte-time-4, AtRun, run-2, run-3, run-4}
+use Rattle.safe.specs.Viewer.{AtViewer, viewer-1, viewer-4, viewer-11}
+use Rattle.safe.proofs.Refusals.{valid, Takes, takes, refuses, named}
+use Rattle.in_time.proofs.Scenes.{fresh}
+use Rattle.applied.specs.Refusals.{high}
+
+-- the number whose condition is met, and no earlier one's
+pub first-row : {Row : ℕ → Type 0} {number : ℕ} (k : ℕ)
+    → 0 < k
+    → Given Row number
+    → Row k
+    → ((j : ℕ) → j < k → Row j → ⊥)
+    → (number ≡ k) × (number ≡ 0 → ⊥)
+first-row k some given row earlier =
+    let is = given .exactly k some .1 (k, refl, row, earlier) in
+    (is, λ none. omega (arith, is, none))
+
+-- ---- the bytes
+
+refused : {X : Type 0} {d : Decoded} → Takes X d → d ≡ NoCommand → X → ⊥
+refused (takes c x) e = never (cc)
+refused (refuses none) e = none
+
+pub is-none : IsCommand 0x9F → ⊥
+unfolding decodedOf
+is-none = refused (named 0x9F) refl
+
+is-one : IsCommand 0x80
+is-one = inr (inr (inr (inr (inr (inl ((omega arith, omega arith), refl))))))
+
+-- ---- no earlier condition is met
+
+pub outside : OutOfRange 2047
+outside (least, most) = omega arith
+
+pub before-one : (j : ℕ) → j < 1 → AtPowerOn 2047 j → ⊥
+before-one j low (power-on-1 c) = omega arith
+
+-- the cell under the head at power-on
+pub cell-high : (mfm : Bool) → AboveFlagged (fresh mfm) high
+unfolding powerOn lengthWithin freshMachine
+cell-high mfm = omega (arith, getD-replicate {A = ℕ} sampleLength 0 512 0 (omega arith))
+
+module _ (mfm : Bool) (l : Lines) where
+  sound : Invalid (fresh mfm) → ⊥
+  sound = valid (fresh mfm) (power-on-valid sampleLength mfm)
+
+  idle : (number b : ℕ) → WhileBusy (fresh mfm) l number b → ⊥
+  unfolding busyIn powerOn lengthWithin freshMachine
+  idle number b c = true≢false (sym (c .busy) ∙ status-busy (fresh mfm) l (power-on-valid sampleLength mfm))
+
+  pub taken : (j : ℕ) → AtLoad (fresh mfm) l 0 0x80 j → ⊥
+  taken j (load-2 c) = sound c
+  taken j (load-5 c) = omega (arith, c)
+  taken j (load-6 c) = idle 0 0x80 c
+  taken j (load-7 z c) = c is-one
+
+  pub before-seven : (j : ℕ) → j < 7 → AtLoad (fresh mfm) l 0 0x9F j → ⊥
+  before-seven j low (load-2 c) = sound c
+  before-seven j low (load-5 c) = omega (arith, c)
+  before-seven j low (load-6 c) = idle 0 0x9F c
+  before-seven j low (load-7 z c) = omega arith
+
+  pub before-five : (j : ℕ) → j < 5 → AtRead (fresh mfm) 4 j → ⊥
+  before-five j low (read-2 c) = sound c
+  before-five j low (read-5 c) = omega arith
+
+  pub before-four : (j : ℕ) → j < 4 → AtByteTime (fresh mfm) high j → ⊥
+  unfolding powerOn lengthWithin freshMachine
+  before-four j low (byte-time-2 c) = sound c
+  before-four j low (byte-time-3 c) = c (length-replicate {A = ℕ} sampleLength 512)
+  before-four j low (byte-time-4 c) = omega arith
+
+  pub before-three : (limit j : ℕ) → j < 3 → AtRun (fresh mfm) l limit [] j → ⊥
+  before-three limit j low (run-2 c) = sound c
+  before-three limit j low (run-3 c) = omega arith
+  before-three limit j low (run-4 n comes c) = omega arith
+
+  pub before-stopped : (limit j : ℕ) → j < 4 → AtRun (fresh mfm) l limit high j → ⊥
+  unfolding powerOn lengthWithin freshMachine
+  before-stopped limit j low (run-2 c) = sound c
+  before-stopped limit j low (run-3 c) = c (length-replicate {A = ℕ} sampleLength 512)
+  before-stopped limit j low (run-4 n comes c) = omega arith
+
+pub before-viewer : {mfm : Bool} {track sector : ℕ} (j : ℕ) → j < 1 → AtViewer [] [] mfm track sector j → ⊥
+before-viewer j low (viewer-1 c) = omega arith
+before-viewer j low (viewer-4 c) = omega arith
+before-viewer j low (viewer-11 c) = omega arith

@@ -1,0 +1,105 @@
+-- Demand 2's first sentence for the first calls after power-on, from `demand-1` and `demand-2` alone. Assumes nothing.
+use mathlib.Core.Path.{_≡_, sym, ap, _∙_}
+use mathlib.Core.Bool.{Bool, cond}
+use mathlib.Core.List.{List}
+use Prim.Native.Nat.{ℕ, _+_}
+use native.Mathlib.Omega.{arith}
+use lib.Dec.{eqb}
+use Rattle.scan.specs.Rows.{lengthWithin}
+use Rattle.effects.specs.Effects.{effectOf}
+use Rattle.activity.specs.Limits.{busyIn, countsWithin}
+use Rattle.act.specs.Turns.{begunActivity, activityAct, actOf}
+use Rattle.registers.specs.declared.Lines.{Lines}
+use Rattle.registers.specs.Rings.{ringWithin, ringNext, seenOf, conditionMet}
+use Rattle.registers.specs.Registers.{readRefusal, readByte, guarded, loadRefusal, loadRegs, loadWires}
+use Rattle.wd.specs.declared.Loaded.{Loaded}
+use Rattle.wd.specs.declared.Read.{Read}
+use Rattle.wd.specs.declared.Ran.{Ran}
+use Rattle.wd.specs.declared.Passed.{Passed}
+use Rattle.wd.specs.Machines.{validOf, freshMachine, powerOn}
+use Rattle.wd.specs.Reads.{readRegister}
+use Rattle.wd.specs.Loads.{loadRegister}
+use Rattle.wd.specs.Turns.{actApplied, cellTurn}
+use Rattle.wd.specs.Rows.{rowRefusal, doneBy, byteTime, byteTimeRow, tallied, countedOf, ranTo, emptyRun, stopsAt, onward, runsOn, runFrom}
+use Rattle.reachable.proofs.Samples.{empty}
+use Rattle.safe.specs.Demand1.{AtPowerOn, power-on-1}
+use Rattle.hosts.specs.Hosts.{Desk, calledAll, servedAt, at}
+use Rattle.in_time.proofs.Scenes.{fresh}
+use Rattle.uses.specs.Contracts.{LoadCall, ReadCall, ByteTimeCall, RunCall}
+use Rattle.uses.specs.Uses.{load, read, byte-time, run, Use, over, next, definedBy, documented, answeredBy, Answered, passedIn, passed, passesThen, madeThen, hostOf, dueAt}
+use Rattle.uses.specs.Courses.{silent}
+use Rattle.demands.proofs.Demand1.{demand-1}
+use Rattle.demands.proofs.Demand2.{demand-2}
+use Rattle.applied.specs.FirstCalls.{FirstCalls}
+
+abbrev start : Bool → Desk
+start mfm = record { machine = fresh mfm; row = empty }
+
+-- ---- three calls
+
+module _ (mfm : Bool) (l l′ l″ : Lines) (r : Loaded) (p : Passed) (row : List ℕ) (q : Read)
+    (loaded : LoadCall (fresh mfm) l 1 5 r) (passes : ByteTimeCall (r .machine) l′ empty p row)
+    (reads : ReadCall (p .machine) l″ 1 q) where
+  abbrev calls : Use (start mfm) (record { machine = q .machine; row = row })
+  calls = next (load l 1 5 (omega arith) r loaded) (next (byte-time l′ p row passes) (next (read l″ 1 q reads) over))
+
+  three-calls : (q .byte ≡ 5) × (q .machine .regs .tr ≡ 5) × (q .machine .ring .position ≡ 1) × (row ≡ empty)
+  unfolding documented definedBy Answered answeredBy powerOn lengthWithin freshMachine validOf ringWithin countsWithin busyIn
+      loadRegister loadRefusal guarded loadRegs loadWires byteTime byteTimeRow rowRefusal doneBy cellTurn actApplied effectOf
+      ringNext seenOf actOf begunActivity activityAct readRegister readRefusal readByte
+  three-calls =
+      let (left, answers) = demand-2 .exactly (start mfm) _ calls in (
+        ap (λ (a : Read). a .byte) (answers .1 .1 .0),
+        ap (λ (d : Desk). d .machine .regs .tr) left,
+        ap (λ (d : Desk). d .machine .ring .position) left,
+        ap (λ (d : Desk). d .row) left,
+      )
+
+-- ---- a byte time and a run of limit 1
+
+module _ (mfm : Bool) (l : Lines) (p : Passed) (r : Ran) (row row′ : List ℕ) (passes : ByteTimeCall (fresh mfm) l empty p row)
+    (runs-one : RunCall (fresh mfm) l 1 empty r row′) where
+  abbrev by-time : Use (start mfm) (record { machine = p .machine; row = row })
+  by-time = next (byte-time l p row passes) over
+
+  abbrev by-run : Use (start mfm) (record { machine = r .machine; row = row′ })
+  by-run = next (run l 1 r row′ runs-one) over
+
+  -- where a host is that makes n byte times
+  abbrev made-by : ℕ → Desk
+  made-by n = dueAt (passesThen n l silent) (start mfm) (n + 0 + 0)
+
+  time-after : made-by (cond (eqb (p .number) 0) 1 0) ≡ record { machine = p .machine; row = row }
+  unfolding hostOf madeThen passed passedIn servedAt calledAll at
+  time-after = demand-2 .every-use (start mfm) _ by-time silent 0
+
+  run-after : made-by (r .tally .passed) ≡ record { machine = r .machine; row = row′ }
+  unfolding hostOf madeThen passed passedIn servedAt calledAll at
+  run-after = demand-2 .every-use (start mfm) _ by-run silent 0
+
+  same-count : r .tally .passed ≡ cond (eqb (p .number) 0) 1 0
+  unfolding Answered answeredBy powerOn lengthWithin freshMachine validOf ringWithin countsWithin busyIn byteTime byteTimeRow
+      rowRefusal doneBy cellTurn actApplied effectOf actOf begunActivity activityAct conditionMet runFrom runsOn stopsAt emptyRun
+      onward ranTo countedOf tallied
+  same-count =
+      ap (λ (a : Ran). a .tally .passed) (demand-2 .exactly (start mfm) _ by-run .1 .0)
+      ∙ ap (λ (a : Passed). cond (eqb (a .number) 0) 1 0) (sym (demand-2 .exactly (start mfm) _ by-time .1 .0))
+
+  same-left : (r .machine ≡ p .machine) × (row′ ≡ row)
+  same-left =
+      let same = sym run-after ∙ ap made-by same-count ∙ time-after in
+      (ap (λ (d : Desk). d .machine) same, ap (λ (d : Desk). d .row) same)
+
+pub first-calls : FirstCalls
+first-calls =
+    record {
+      starts = λ mfm r call.
+          let is = demand-1 .power-on 2048 mfm r call .given .done .1 taken in
+          let on = demand-2 .starts 2048 mfm r call is in
+          (is, on .ring, on .regs);
+      exactly = three-calls;
+      one-by-one = same-left;
+    }
+  where
+    taken : (j : ℕ) → AtPowerOn 2048 j → ⊥
+    taken j (power-on-1 out) = out (omega arith, omega arith)

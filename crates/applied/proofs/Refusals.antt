@@ -1,0 +1,60 @@
+-- Demand 1 for one bad input of each call, from `demand-1` alone: its condition is met, and none before it. Assumes nothing.
+use mathlib.Core.Path.{_≡_, refl}
+use mathlib.Core.List.{[]}
+use mathlib.Core.Logic.{inl, inr}
+use Prim.Native.Nat.{ℕ}
+use native.Mathlib.Omega.{arith}
+use lib.ListN.{length}
+use Rattle.scan.specs.Rows.{lengthWithin}
+use Rattle.wd.specs.Machines.{freshMachine, powerOn}
+use Rattle.safe.specs.Demand1.{OutOfRange, power-on-1, load-7, read-5, run-3}
+use Rattle.safe.specs.Pictures.{empty}
+use Rattle.safe.specs.Viewer.{viewer-1}
+use Rattle.in_time.proofs.Scenes.{fresh}
+use Rattle.demands.proofs.Demand1.{demand-1}
+use Rattle.applied.specs.Refusals.{Refusals}
+use Rattle.applied.proofs.Conditions.{first-row, is-none, outside, before-one, taken, before-seven, before-five, before-three, before-viewer}
+use Rattle.applied.proofs.HighCells.{above, stopped}
+
+pub refusals : Refusals
+unfolding powerOn lengthWithin freshMachine
+refusals =
+    record {
+      short = λ mfm r call.
+          let safe = demand-1 .power-on 2047 mfm r call in
+          let (is, some) = first-row 1 (omega arith) (safe .given) (power-on-1 outside) before-one in
+          (is, safe .refused some);
+      command = λ mfm l r call. demand-1 .load (fresh mfm) l 0 0x80 r call .given .done .1 (taken mfm l);
+      no-command = λ mfm l r call.
+          let safe = demand-1 .load (fresh mfm) l 0 0x9F r call in
+          let (is, some) = first-row 7 (omega arith) (safe .given) (load-7 refl is-none) (before-seven mfm l) in
+          (is, safe .refused some);
+      no-register = λ mfm l r call.
+          let safe = demand-1 .read (fresh mfm) l 4 r call in
+          let (is, some) = first-row 5 (omega arith) (safe .given) (read-5 (omega arith)) (before-five mfm l) in
+          let (machine, byte) = safe .refused some in
+          (is, machine, byte);
+      above = above;
+      no-track = λ mfm l limit r row call.
+          let safe = demand-1 .run (fresh mfm) l limit [] r row call in
+          let none : length {A = ℕ} [] ≡ 2048 → ⊥ = λ same. omega (arith, same) in
+          let (is, some) = first-row 3 (omega arith) (safe .given) (run-3 none) (before-three mfm l limit) in
+          let left = safe .refused (inr is) in (
+            is,
+            left .machine,
+            left .untouched,
+            λ i. record { passed = left .passed i; inward = left .inward i; outward = left .outward i },
+          );
+      stopped = stopped;
+      no-picture = λ room r room′ call.
+          let safe = demand-1 .picture [] room r room′ call in
+          let is = safe .given .exactly 9 (omega arith) .1 (0, refl, empty refl, λ s low turn. omega arith) in
+          let (track, side, left) = safe .refused (λ none. omega (arith, is, none)) in
+          (is, track, side, left);
+      no-sides = λ p0 mfm track sector part start number shown numbered.
+          let safe = demand-1 .view [] [] p0 mfm track sector part start number shown numbered in
+          let none : OutOfRange (length {A = ℕ} []) = λ (least, most). omega arith in
+          let (is, some) = first-row 1 (omega arith) (safe .given) (viewer-1 (inl none)) before-viewer in
+          let (nothing, start) = safe .refused some in
+          (is, nothing, start);
+    }

@@ -1,0 +1,7 @@
+-- What the demands come to on given machines and tracks.
+pub mod Refusals
+pub mod FirstCalls
+pub mod Sector
+pub mod NotFound
+pub mod Window
+pub mod March

@@ -1,0 +1,62 @@
+-- Demand 1 for one bad input of each call: what it gets, by number, and what it leaves. Assumes nothing.
+use mathlib.Core.Path.{_≡_}
+use mathlib.Core.Bool.{Bool, false}
+use mathlib.Core.List.{List, []}
+use Prim.Native.Nat.{ℕ, _<_}
+use lib.ListN.{replicate}
+use Rattle.registers.specs.declared.Lines.{Lines}
+use Rattle.picture.specs.declared.Answer.{Answer}
+use Rattle.wd.specs.declared.Started.{Started}
+use Rattle.wd.specs.declared.Loaded.{Loaded}
+use Rattle.wd.specs.declared.Read.{Read}
+use Rattle.wd.specs.declared.Passed.{Passed}
+use Rattle.wd.specs.declared.Ran.{Ran}
+use Rattle.reachable.proofs.Samples.{sampleLength}
+use Rattle.in_time.proofs.Scenes.{fresh}
+use Rattle.uses.specs.Contracts.{PowerOnCall, LoadCall, ReadCall, ByteTimeCall, RunCall, PictureCall, ViewCall, NumberCall}
+
+-- 2,048 cells above 511
+abbrev pub high : List ℕ
+high = replicate sampleLength 512
+
+-- the machine at power-on, of either density, under any lines
+pub record Refusals : Type 0 where
+  -- "L 2,047, 6,401 refused 1": "power-on FM machine of 2,048"
+  pub short : (mfm : Bool) (r : Started) → PowerOnCall 2047 mfm r → (r .number ≡ 1) × (r .machine ≡ fresh false)
+  -- "80, C4 accepted; 9F, C3 refused 7"
+  pub command : (mfm : Bool) (l : Lines) (r : Loaded) → LoadCall (fresh mfm) l 0 0x80 r → r .number ≡ 0
+  pub no-command : (mfm : Bool) (l : Lines) (r : Loaded)
+      → LoadCall (fresh mfm) l 0 0x9F r
+      → (r .number ≡ 7) × (r .machine ≡ fresh mfm)
+  -- 5: "as given, byte 0"
+  pub no-register : (mfm : Bool) (l : Lines) (r : Read)
+      → ReadCall (fresh mfm) l 4 r
+      → (r .number ≡ 5) × (r .machine ≡ fresh mfm) × (r .byte ≡ 0)
+  -- 4: "the cell under the head .. is above 511"
+  pub above : (mfm : Bool) (l : Lines) (r : Passed) (row : List ℕ)
+      → ByteTimeCall (fresh mfm) l high r row
+      → (r .number ≡ 4) × (r .machine ≡ fresh mfm) × (row ≡ high)
+  -- 3: "lent track is not L cells", in a run: nothing is counted
+  pub no-track : (mfm : Bool) (l : Lines) (limit : ℕ) (r : Ran) (row : List ℕ)
+      → RunCall (fresh mfm) l limit [] r row
+      → (r .number ≡ 3)
+      × (r .machine ≡ fresh mfm)
+      × (row ≡ [])
+      × (r .tally ≡ record { passed = 0; inward = 0; outward = 0 })
+  -- 4 in a run: "with the count passed until then"
+  pub stopped : (mfm : Bool) (l : Lines) (limit : ℕ) (r : Ran) (row : List ℕ)
+      → 0 < limit
+      → RunCall (fresh mfm) l limit high r row
+      → (r .number ≡ 4)
+      × (r .machine ≡ fresh mfm)
+      × (row ≡ high)
+      × (r .tally ≡ record { passed = 0; inward = 0; outward = 0 })
+  -- 9: "picture .. is empty"
+  pub no-picture : (room : List ℕ) (r : Answer) (room′ : List ℕ)
+      → PictureCall [] room r room′
+      → (r .number ≡ 9) × (r .track ≡ 0) × (r .side ≡ 0) × (room′ ≡ room)
+  -- 1, in the viewer: "empty part", "of side 0"
+  pub no-sides : (p0 : ℕ × ℕ) (mfm : Bool) (track sector : ℕ) (part : List ℕ) (start : ℕ × ℕ) (number : ℕ)
+      → ViewCall [] [] p0 mfm track sector part start
+      → NumberCall [] [] mfm track sector number
+      → (number ≡ 1) × (part ≡ []) × (start ≡ p0)

@@ -1,0 +1,2 @@
+-- What was bought, on one page.
+pub mod Demands

@@ -1,0 +1,46 @@
+-- The machines that the program tries refusal 2 with, and what the calls give for them. Assumes nothing.
+use mathlib.Core.Bool.{true, false}
+use mathlib.Core.List.{List, [], _∷_}
+use Prim.Native.Nat.{ℕ}
+use Rattle.activity.specs.declared.Activity.{Activity}
+use Rattle.registers.specs.declared.Lines.{Lines}
+use Rattle.registers.specs.declared.Ring.{Ring}
+use Rattle.wd.specs.declared.Machine.{Machine}
+use Rattle.wd.specs.Machines.{powerOn}
+use Rattle.wd.specs.Loads.{loadRegister}
+use Rattle.wd.specs.Reads.{readRegister}
+use Rattle.wd.specs.Rows.{byteTime, byteTimeRow, runOf}
+
+-- "L from 2,048 to 6,400": room for a row one cell longer
+abbrev pub roomForCells : ℕ
+roomForCells = 6401
+
+-- the machine of power-on, but for its ring and its activity
+unfoldable pub machineWith : Ring → Activity → Machine
+machineWith ring activity =
+    let fresh = powerOn 2048 true .machine in
+    record {
+      ring = ring;
+      mfm = fresh .mfm;
+      regs = fresh .regs;
+      wires = fresh .wires;
+      flags = fresh .flags;
+      head = fresh .head;
+      past = fresh .past;
+      conditions = fresh .conditions;
+      order = fresh .order;
+      activity = activity;
+    }
+
+-- "Drive lines Ready, protect, track 0 and head-loaded (HLT)": Ready and HLT are on
+abbrev pub readyLines : Lines
+readyLines = record { ready = true; protect = false; track0 = false; hlt = true }
+
+-- the numbers that load, read, byte time and run give: DR is loaded and read, and the run is of one byte time
+unfoldable pub numbersOf : Machine → List ℕ → List ℕ
+numbersOf m row =
+    loadRegister m readyLines 3 0 .number
+    ∷ readRegister m readyLines 3 .number
+    ∷ byteTime m readyLines row .number
+    ∷ runOf m readyLines 1 (byteTimeRow m readyLines row) .number
+    ∷ []

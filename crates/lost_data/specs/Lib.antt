@@ -1,0 +1,2 @@
+-- Lost Data.
+pub mod LostData

@@ -1,0 +1,1 @@
+// Lost Data, under every host: definitions and theorems, no code.

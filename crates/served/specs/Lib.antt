@@ -1,0 +1,2 @@
+-- Demand 2 as a host sees it.
+pub mod Served

@@ -1,0 +1,11 @@
+-- Every use is a host.
+pub mod Calls
+pub mod EveryUse
+pub mod QuietUse
+pub mod Statuses
+pub mod Heads
+pub mod Endings
+pub mod Decoding
+pub mod Sessions
+pub mod Bytes
+pub mod Serves

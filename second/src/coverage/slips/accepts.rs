@@ -1,0 +1,22 @@
+// When a load is accepted as a command.
+
+use crate::command::{Command, Name};
+use crate::coverage::step::Step;
+
+pub fn type_one(step: &Step) -> bool {
+    step.accepts(Command::is_type_one)
+}
+
+/// Types II and III.
+pub fn transfer(step: &Step) -> bool {
+    step.accepts(Command::is_transfer)
+}
+
+pub fn force(step: &Step) -> bool {
+    step.accepts(Command::forces)
+}
+
+pub fn name(step: &Step, name: Name) -> bool {
+    step.accepted()
+        .map_or(false, |command| command.name == name)
+}

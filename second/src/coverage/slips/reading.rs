@@ -1,0 +1,329 @@
+// Slips of Read Sector after its ID, Read Address and Read Track.
+
+use super::{leave, slip, turn, Sentence, Subject};
+use crate::activity::{Activity, AddressField, RecordRead, Search, Window};
+use crate::command::Name;
+use crate::coverage::step::{Outcome, Step};
+use crate::density::Density;
+use crate::field;
+
+pub const SUBJECT: Subject = Subject {
+    concerns: |step| step.ends() || step.begins().is_some() || is_reading(step),
+    sentences: SENTENCES,
+};
+
+const SENTENCES: &[Sentence] = &[
+    Sentence {
+        says: "The mark byte must be among the first 30 (FM) or 43 (MFM) cells after the ID's \
+               last; .. Other marks there are passed over.",
+        slips: &[
+            slip("29 (FM)", meets_mark_at_30, turn::busy_off_bit_4_on),
+            slip("42 (MFM)", meets_mark_at_43, turn::busy_off_bit_4_on),
+            slip(
+                "another mark ends it",
+                meets_other_mark,
+                turn::busy_off_bit_4_on,
+            ),
+        ],
+    },
+    Sentence {
+        says: "No data mark by the window's last cell: bit 4, end there.",
+        slips: &[slip("bit 4 stays off", misses_mark, turn::bit_4_off)],
+    },
+    Sentence {
+        says: "Data mark at cell 30 (FM), 43 (MFM) served; 31, 44 Record Not Found.",
+        slips: &[
+            slip(
+                "31 served",
+                |step| has_mark_next(step, Density::Fm),
+                wait_longer,
+            ),
+            slip(
+                "44 served",
+                |step| has_mark_next(step, Density::Mfm),
+                wait_longer,
+            ),
+        ],
+    },
+    Sentence {
+        says: "Easy slips: clearing DRQ at the end of a read; going on to a second ID after a \
+               good match without a data mark",
+        slips: &[
+            slip("DRQ goes off (Read Sector)", ends_record, turn::drq_off),
+            slip("DRQ goes off (Read Address)", ends_address, turn::drq_off),
+            slip("DRQ goes off (Read Track)", ends_track, turn::drq_off),
+            slip("DRQ goes off (not found)", finds_nothing, turn::drq_off),
+            slip("it goes on to a second ID", misses_mark, search_on),
+        ],
+    },
+    Sentence {
+        says: "Each data byte, flags ignored, goes to DR and sets DRQ; if DRQ was still on, Lost \
+               Data.",
+        slips: &[
+            slip("DR stays", is_data, leave::data),
+            slip("a flagged one is left", is_flagged_data, leave::data),
+            slip("DRQ stays off", is_data, turn::drq_off),
+            slip("Lost Data stays off", is_data, leave::lost_data),
+        ],
+    },
+    Sentence {
+        says: "At the second CRC cell: bit 3 if bad, bit 5 on if F8, else off, Busy off, INTRQ.",
+        slips: &[
+            slip("at the first", is_first_crc_cell, turn::busy_off),
+            slip("bit 3 stays", ends_record, leave::crc_error),
+            slip("F8 leaves bit 5", ends_record, turn::bit_5_off),
+            slip("FB leaves bit 5", ends_record, leave_deleted),
+        ],
+    },
+    Sentence {
+        says: "With m, SR goes up by one (255 to 0) and the search starts afresh instead; a bad \
+               data CRC does not stop it (003).",
+        slips: &[
+            slip("m is not looked at", goes_on, turn::busy_off),
+            slip("SR stays", goes_on, leave::sector),
+            slip("SR stays at 255", goes_on, stay_at_255),
+            slip("SR goes up without m", ends_single, go_up),
+            slip("pulses are not afresh", goes_on, count_one_pulse),
+            slip("a bad data CRC stops it", goes_on, stop_if_bad),
+        ],
+    },
+    Sentence {
+        says: "The six cells after the next ID mark go to DR as data bytes do; at the sixth, \
+               track to SR, bit 3 if bad, end.",
+        slips: &[
+            slip("Lost Data stays off", reads_address, leave::lost_data),
+            slip(
+                "a flagged one ends it",
+                reads_flagged_address,
+                turn::busy_off,
+            ),
+            slip("SR stays", ends_address, leave::sector),
+            slip("the sector to SR", ends_address, keep_sector),
+            slip("the track to TR", ends_address, keep_track),
+            slip("bit 3 stays off", ends_address, turn::bit_3_off),
+        ],
+    },
+    Sentence {
+        says: "Fifth pulse up to the mark byte: bit 4, end.",
+        slips: &[
+            slip("bit 4 stays off", finds_no_address, turn::bit_4_off),
+            slip("after the mark byte too", pulses_in_address, turn::busy_off),
+        ],
+    },
+    Sentence {
+        says: "Cells 0 to L - 1 from the first index pulse, as data bytes go; the last ends it.",
+        slips: &[
+            slip("from the first byte time", begins_track, read_at_once),
+            slip("Lost Data stays off", reads_track, leave::lost_data),
+            slip("the last does not end it", ends_track, read_on),
+        ],
+    },
+];
+
+fn is_reading(step: &Step) -> bool {
+    window(step).is_some() || record(step).is_some() || reads_address(step) || reads_track(step)
+}
+
+fn window<'a>(step: &'a Step) -> Option<&'a Window> {
+    match &step.before.activity {
+        Activity::AwaitingDataMark(window) if step.passes() => Some(window),
+        _ => None,
+    }
+}
+
+fn record<'a>(step: &'a Step) -> Option<&'a RecordRead> {
+    match &step.before.activity {
+        Activity::ReadingRecord(read) if step.passes() => Some(read),
+        _ => None,
+    }
+}
+
+fn address<'a>(step: &'a Step) -> Option<&'a AddressField> {
+    match &step.before.activity {
+        Activity::ReadingAddress(address) if step.passes() => Some(address),
+        _ => None,
+    }
+}
+
+fn finds_mark(step: &Step) -> bool {
+    matches!(step.right.machine.activity, Activity::ReadingRecord(_))
+}
+
+/// The data mark ends with the window's last cell.
+fn meets_last_mark(step: &Step, density: Density) -> bool {
+    let place = window(step).map(|window| window.passed.len() + 1);
+    step.before.density == density && place == Some(density.window()) && finds_mark(step)
+}
+
+fn meets_mark_at_30(step: &Step) -> bool {
+    meets_last_mark(step, Density::Fm)
+}
+
+fn meets_mark_at_43(step: &Step) -> bool {
+    meets_last_mark(step, Density::Mfm)
+}
+
+fn meets_other_mark(step: &Step) -> bool {
+    window(step).map_or(false, |window| {
+        let mut passed = window.passed.clone();
+        passed.push(step.cell());
+        let mark = field::mark_at_end(step.before.density, &passed);
+        mark.is_some() && !finds_mark(step)
+    })
+}
+
+fn misses_mark(step: &Step) -> bool {
+    window(step).is_some() && step.ends()
+}
+
+/// The next cell would complete the data mark that was not in the window.
+fn has_mark_next(step: &Step, density: Density) -> bool {
+    if step.before.density != density || !misses_mark(step) {
+        return false;
+    }
+    let (head, length) = (usize::from(step.before.position), step.row.len());
+    let places = (head + length - 2)..(head + length + 2);
+    let cells: Vec<u16> = places.map(|place| step.row[place % length]).collect();
+    field::data_mark_at_end(density, &cells).is_some()
+}
+
+/// The window has one more cell.
+fn wait_longer(step: &Step, wrong: &mut Outcome) {
+    if let Some(mut window) = window(step).cloned() {
+        window.passed.remove(0);
+        window.passed.push(step.cell());
+        go_on_with(wrong, Activity::AwaitingDataMark(window));
+    }
+}
+
+fn search_on(step: &Step, wrong: &mut Outcome) {
+    if let Some(window) = window(step) {
+        go_on_with(wrong, Activity::Searching(Search::new(window.command)));
+    }
+}
+
+/// The command does not end with Record Not Found, but goes on with this.
+fn go_on_with(wrong: &mut Outcome, activity: Activity) {
+    wrong.machine.status.not_found = false;
+    wrong.machine.interrupt_request = false;
+    wrong.machine.activity = activity;
+}
+
+/// Which cell after the mark this is, counted from 1.
+fn cell_after_mark(step: &Step) -> Option<usize> {
+    let read = record(step)?;
+    Some(read.field.len() + 1 - field::mark_length(step.before.density))
+}
+
+fn is_data(step: &Step) -> bool {
+    let size = record(step).map_or(0, |read| read.size);
+    cell_after_mark(step).map_or(false, |place| place <= size)
+}
+
+fn is_flagged_data(step: &Step) -> bool {
+    is_data(step) && field::is_flagged(step.cell())
+}
+
+/// Which cell after the data this is, counted from 1.
+fn cell_after_data(step: &Step) -> Option<usize> {
+    cell_after_mark(step)?.checked_sub(record(step)?.size)
+}
+
+fn is_first_crc_cell(step: &Step) -> bool {
+    cell_after_data(step) == Some(1)
+}
+
+fn ends_record(step: &Step) -> bool {
+    cell_after_data(step) == Some(2)
+}
+
+fn leave_deleted(step: &Step, wrong: &mut Outcome) {
+    wrong.machine.status.deleted |= step.before.status.deleted;
+}
+
+/// The record ends, but not the command.
+fn goes_on(step: &Step) -> bool {
+    ends_record(step) && !step.ends()
+}
+
+fn ends_single(step: &Step) -> bool {
+    ends_record(step) && step.ends()
+}
+
+fn stay_at_255(step: &Step, wrong: &mut Outcome) {
+    wrong.machine.sector = step.before.sector.saturating_add(1);
+}
+
+fn go_up(step: &Step, wrong: &mut Outcome) {
+    wrong.machine.sector = step.before.sector.wrapping_add(1);
+}
+
+fn count_one_pulse(_: &Step, wrong: &mut Outcome) {
+    if let Activity::Searching(search) = &mut wrong.machine.activity {
+        search.pulses = 1;
+    }
+}
+
+fn stop_if_bad(_: &Step, wrong: &mut Outcome) {
+    if wrong.machine.status.crc_error {
+        wrong.end();
+    }
+}
+
+/// The end of a command of Types II and III by Record Not Found.
+fn finds_nothing(step: &Step) -> bool {
+    step.transfers() && step.ends() && step.right.machine.status.not_found
+}
+
+fn reads_address(step: &Step) -> bool {
+    address(step).is_some()
+}
+
+fn reads_flagged_address(step: &Step) -> bool {
+    reads_address(step) && field::is_flagged(step.cell())
+}
+
+fn pulses_in_address(step: &Step) -> bool {
+    reads_address(step) && step.is_pulse()
+}
+
+fn ends_address(step: &Step) -> bool {
+    reads_address(step) && step.ends()
+}
+
+/// The third of the six bytes goes to SR.
+fn keep_sector(step: &Step, wrong: &mut Outcome) {
+    if let Some(address) = address(step) {
+        wrong.machine.sector = address.field[address.field.len() - 3];
+    }
+}
+
+fn keep_track(step: &Step, wrong: &mut Outcome) {
+    wrong.machine.track = step.right.machine.sector;
+}
+
+fn finds_no_address(step: &Step) -> bool {
+    let command = step.searches().map(|command| command.name);
+    command == Some(Name::ReadAddress) && step.ends()
+}
+
+fn reads_track(step: &Step) -> bool {
+    step.passes() && step.before.activity == Activity::ReadingTrack
+}
+
+fn ends_track(step: &Step) -> bool {
+    reads_track(step) && step.ends()
+}
+
+fn begins_track(step: &Step) -> bool {
+    step.begins().map(|command| command.name) == Some(Name::ReadTrack)
+}
+
+fn read_at_once(step: &Step, wrong: &mut Outcome) {
+    *wrong = step.instead(|machine, _| machine.activity = Activity::ReadingTrack);
+}
+
+fn read_on(_: &Step, wrong: &mut Outcome) {
+    wrong.machine.interrupt_request = false;
+    wrong.machine.activity = Activity::ReadingTrack;
+}

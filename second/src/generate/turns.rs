@@ -1,0 +1,63 @@
+// What every script begins with, so that some hundred seeds in a row meet all of it.
+
+use super::{accepting, commands, forcing, refusing, timing, Generator};
+
+/// Scenes of some lines each.
+pub const SHORT_SCENES: [fn(&mut Generator); 16] = [
+    Generator::refused_transfer_scene,
+    Generator::edges_scene,
+    Generator::direction_scene,
+    Generator::direction_scene,
+    Generator::rates_scene,
+    Generator::track_ends_scene,
+    Generator::restore_scene,
+    Generator::bad_id_scene,
+    Generator::vain_scene,
+    Generator::fifth_pulse_scene,
+    Generator::window_scene,
+    Generator::odd_address_scene,
+    Generator::late_write_scene,
+    Generator::read_ends_scene,
+    Generator::unserved_track_scene,
+    Generator::marks_scene,
+];
+/// Commands that a script loads while something is on.
+const LOADINGS: u64 = 7;
+/// One seed in so many has no chain of records, which takes some hundred lines.
+const NO_CHAIN_ONE_IN: u64 = 3;
+/// One seed in so many has the viewer look.
+const VIEW_ONE_IN: u64 = 4;
+
+impl Generator {
+    /// Each byte that is no command, each Type I command and each sector command; each length read
+    /// and written; each command that settles; each Force Interrupt in each activity; each command
+    /// with DRQ, INTRQ and each condition off and on. And every short scene.
+    pub fn take_turns(&mut self, seed: u64) {
+        self.load(0, in_turn(&refusing::no_commands(), seed));
+        let type_one: Vec<u8> = (0x00..0x80).collect();
+        self.stepping_scene(in_turn(&type_one, seed));
+        self.sector_scene(in_turn(&commands::sector_commands(), seed));
+        self.record_scene(in_turn(&timing::RECORDS, seed));
+        self.beginning_scene(in_turn(&timing::BEGINNINGS, seed));
+        self.beginning_scene(in_turn(&timing::SETTLINGS, seed));
+        if seed % NO_CHAIN_ONE_IN != 0 {
+            self.chain_scene();
+        }
+        self.forcing_scene(in_turn(&forcing::pairs(), seed));
+        for turn in 0..LOADINGS {
+            let number = seed.wrapping_mul(LOADINGS).wrapping_add(turn);
+            self.loading_scene(in_turn(&accepting::loadings(), number));
+        }
+        for scene in SHORT_SCENES {
+            scene(self);
+        }
+        if seed % VIEW_ONE_IN == 0 {
+            self.viewing_scene();
+        }
+    }
+}
+
+/// The seed's choice: seeds in a row go through all of them.
+fn in_turn<T: Copy>(choices: &[T], seed: u64) -> T {
+    choices[(seed % choices.len() as u64) as usize]
+}

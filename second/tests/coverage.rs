@@ -1,0 +1,173 @@
+// The count of scripts that show a wrong machine, alone and as a program.
+
+use std::collections::BTreeSet;
+use std::process::{Command, Output};
+
+use second::bench::Bench;
+use second::coverage::desk::{Desk, Printed};
+use second::coverage::{rows, shown};
+use second::generate;
+use second::script::{self, Parsed};
+
+const COVERAGE: &str = env!("CARGO_BIN_EXE_coverage");
+/// As much as `./test long` soaks for, or a little more.
+const SOAK_SEED: u64 = 1793;
+const SOAK_SCRIPTS: u64 = 50;
+const SOAK_BYTE_TIMES: u64 = 200_000;
+
+/// An ID at cell 100, on an FM ring of 2,048 cells, with Ready and HLT on.
+const SCENE: &str = "P 0 800\nN 9\nC 64 1FE 0 0 1 0 D2 C3\n";
+
+/// Whether these lines, in the scene, show the machine that does this in place of what a sentence
+/// says that begins so.
+fn shows(lines: &[&str], says: &str, does: &str) -> bool {
+    let known = |row: &&(&str, &str)| row.0.starts_with(says) && row.1 == does;
+    assert_eq!(rows().iter().filter(known).count(), 1, "{}: {}", says, does);
+    let script = format!("{}{}\n", SCENE, lines.join("\n"));
+    shown(&script).iter().any(|row| known(&row))
+}
+
+#[test]
+fn a_cleared_drq_is_shown_only_where_it_was_on() {
+    let clears = |lines: &[&str]| shows(lines, "An accepted command", "DRQ stays (I)");
+    assert!(clears(&["W 0 F0", "W 0 D0", "W 0 10"]));
+    assert!(!clears(&["W 0 F0", "W 3 0", "W 0 D0", "W 0 10"]));
+    assert!(!clears(&["W 0 F0", "W 0 D0", "W 0 80"]));
+}
+
+#[test]
+fn what_restore_sets_is_shown_only_where_it_was_something_else() {
+    let sets = |lines: &[&str], does| shows(lines, "Restore sets TR 255", does);
+    assert!(sets(&["W 1 7", "W 0 0"], "TR stays"));
+    assert!(!sets(&["W 1 FF", "W 0 0"], "TR stays"));
+    assert!(sets(&["W 3 7", "W 0 0"], "DR stays"));
+    assert!(!sets(&["W 0 0"], "DR stays"));
+}
+
+#[test]
+fn what_no_line_prints_is_shown_where_it_has_an_effect() {
+    let direction = |lines: &[&str]| shows(lines, "It gives: position 0", "direction in");
+    assert!(!direction(&["W 0 20"]));
+    assert!(direction(&["W 0 20", "B"]));
+    assert!(!direction(&["W 0 40", "B", "W 0 D0", "W 0 20", "B"]));
+}
+
+#[test]
+fn a_condition_is_shown_where_something_meets_it() {
+    let drops = |lines: &[&str]| shows(lines, "Any later command", "Type I does not");
+    assert!(drops(&["X 0", "W 0 D4", "W 0 40", "B"]));
+    assert!(!drops(&["X 5", "W 0 D4", "W 0 40", "B"]));
+    assert!(!drops(&["X 0", "W 0 D2", "W 0 40", "B"]));
+}
+
+/// Read Address with E, the head placed so that its search begins with this cell.
+fn settles_up_to(cell: u16, does: &str) -> bool {
+    let head = format!("X {:X}", (cell + 2048 - 469) % 2048);
+    shows(&[&head, "W 0 C4", "G FFFF"], "Types II and III load", does)
+}
+
+#[test]
+fn a_settling_is_shown_where_its_last_byte_time_counts() {
+    assert!(settles_up_to(100, "470 (FM)"));
+    assert!(!settles_up_to(99, "470 (FM)"));
+    assert!(settles_up_to(101, "468 (FM)"));
+    assert!(!settles_up_to(100, "468 (FM)"));
+}
+
+#[test]
+fn a_written_cell_is_shown_where_it_is_looked_at() {
+    let writes = |lines: &[&str]| shows(lines, "FM: F8-FB and FE", "FC plain");
+    let format = ["X 7FF", "W 0 F0", "W 3 FC", "G 2", "W 0 D0"];
+    assert!(!writes(&format));
+    assert!(writes(&[&format[..], &["V 0 1"]].concat()));
+    assert!(!writes(&[&format[..], &["C 0 0", "V 0 1"]].concat()));
+}
+
+#[test]
+fn a_run_that_goes_on_is_shown() {
+    let ends = |lines: &[&str]| shows(lines, "When it ends by itself", "INTRQ stays off (I)");
+    assert!(ends(&["W 0 10", "G FFFF"]));
+    assert!(!ends(&["W 0 10", "W 3 7", "G 3"]));
+}
+
+#[test]
+fn nothing_is_shown_by_lines_after_an_error() {
+    let loads = |lines: &[&str]| shows(lines, "Writes 0 to 3", "1 loads nothing");
+    assert!(loads(&["W 1 7"]));
+    assert!(!loads(&["Z", "W 1 7"]));
+    assert!(!loads(&["W 1 100", "W 1 7"]));
+}
+
+#[test]
+fn no_row_stands_twice() {
+    let rows = rows();
+    let different: BTreeSet<_> = rows.iter().collect();
+    assert_eq!(different.len(), rows.len());
+}
+
+/// What the bench prints, as the desk gives it.
+fn printed(text: String) -> Printed {
+    if !text.contains('|') {
+        return Printed::Text(text);
+    }
+    let words = text[1..].split([' ', '|']).filter(|word| !word.is_empty());
+    let number = |word| u16::from_str_radix(word, 16).expect("a number");
+    Printed::Numbers(words.map(number).collect())
+}
+
+#[test]
+fn where_nothing_slips_the_lines_print_what_the_bench_prints() {
+    let (mut bench, mut watched) = (Bench::new(), Bench::new());
+    for seed in 0..12 {
+        for text in generate::script(seed).lines() {
+            if let Parsed::Line(line) = script::parse(text.as_bytes()) {
+                let mut desk = Desk {
+                    bench: &mut watched,
+                    hand: &mut |_| None,
+                };
+                let expected = bench.carry_out(&line).map(printed);
+                assert_eq!(desk.carry_out(&line), expected, "seed {}: {}", seed, text);
+            }
+        }
+    }
+    assert_eq!(watched.machine, bench.machine);
+    assert_eq!(watched.current, bench.current);
+}
+
+#[test]
+fn a_long_soak_shows_every_wrong_machine() {
+    let mut all: BTreeSet<_> = rows().into_iter().collect();
+    for seed in SOAK_SEED..SOAK_SEED + SOAK_SCRIPTS {
+        let long = generate::long_script(seed, SOAK_BYTE_TIMES);
+        for row in shown(&long.text) {
+            all.remove(&row);
+        }
+    }
+    assert_eq!(all, BTreeSet::new());
+}
+
+fn run(arguments: &[&str]) -> Output {
+    Command::new(COVERAGE)
+        .args(arguments)
+        .output()
+        .expect("the program runs")
+}
+
+#[test]
+fn the_program_counts_and_fails_where_too_few_scripts_show_a_machine() {
+    let output = run(&["0", "2"]);
+    let text = String::from_utf8_lossy(&output.stdout).to_string();
+    assert!(text.contains("\nReading or loading DR turns DRQ off.\n     2  reading does not\n"));
+    let rows = rows().len();
+    let end =
+        format!("\n2 scripts, {rows} wrong machines, {rows} of them shown by fewer than 10\n");
+    assert!(text.ends_with(&end), "{}", text);
+    assert_eq!(output.status.code(), Some(1));
+}
+
+#[test]
+fn the_program_fails_without_its_arguments() {
+    for arguments in [&["0"][..], &["0", "many"], &["0", "1", "2"]] {
+        assert_eq!(run(arguments).status.code(), Some(2));
+    }
+}
