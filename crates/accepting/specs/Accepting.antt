@@ -95,12 +95,12 @@ beginHead h ends b Works = record { loaded = h .loaded || not ends; inward = h .
 beginHead h ends b Forces = h
 
 -- "bit 2 at each index pulse, bits 0 and 1 when Ready comes on or goes off between byte times. Any later command drops
--- these."
-unfoldable pub beginConditions : ℕ → Class → Conditions
-beginConditions b Seeks = record { on = false; off = false; index = false }
-beginConditions b Steps = record { on = false; off = false; index = false }
-beginConditions b Works = record { on = false; off = false; index = false }
-beginConditions b Forces = record { on = forcesAtReady b; off = forcesAtNotReady b; index = forcesAtIndex b }
+-- these.": what a command asks for, as long as it is the last one
+unfoldable pub conditionsFor : ℕ → Class → Conditions
+conditionsFor b Seeks = record { on = false; off = false; index = false }
+conditionsFor b Steps = record { on = false; off = false; index = false }
+conditionsFor b Works = record { on = false; off = false; index = false }
+conditionsFor b Forces = record { on = forcesAtReady b; off = forcesAtNotReady b; index = forcesAtIndex b }
 
 -- "settle for 469 (FM) or 938 (MFM) byte times if E is 1, then begin with the first byte time that has HLT on"
 unfoldable pub worksFrom : Bool → Bool → Bool → Activity

@@ -1,6 +1,6 @@
 // What an accepted command does at once, by its class.
 ghost use mathlib.Core.Path.{_≡_};
-ghost use Rattle.accepting.specs.Accepting.{writes, heldBy, asksFirst, beginRegs, beginWires, forcedFlags, beginFlags, beginHead, beginConditions, worksFrom, beginActivity};
+ghost use Rattle.accepting.specs.Accepting.{writes, heldBy, asksFirst, beginRegs, beginWires, forcedFlags, beginFlags, beginHead, conditionsFor, worksFrom, beginActivity};
 use activity::Activity;
 use command::Class;
 use command::Command;
@@ -123,8 +123,9 @@ pub fn begin_head(head: Head, ends: bool, byte: u8, class: Class) -> Head
     }
 }
 
-pub fn begin_conditions(byte: u8, class: Class) -> Conditions
-    ensures { λ r. ⌜ r ≡ beginConditions byte class ⌝ }
+// The conditions that a command asks for, as long as it is the last one.
+pub fn conditions_for(byte: u8, class: Class) -> Conditions
+    ensures { λ r. ⌜ r ≡ conditionsFor byte class ⌝ }
 {
     match class {
         Class::Forces => Conditions {

@@ -24,6 +24,9 @@ use Rattle.wd.specs.Rows.{rowRefusal, doneBy, byteTime, byteTimeRow, tallied, c
 use Rattle.reachable.proofs.Samples.{empty}
 use Rattle.safe.specs.Demand1.{AtPowerOn, power-on-1}
 use Rattle.hosts.specs.Hosts.{Desk, calledAll, servedAt, at}
+use Rattle.common.specs.Bits.{bitOf}
+use Rattle.command.specs.Commands.{classOf}
+use Rattle.accepting.specs.Accepting.{conditionsFor}
 use Rattle.in_time.proofs.Scenes.{fresh}
 use Rattle.uses.specs.Contracts.{LoadCall, ReadCall, ByteTimeCall, RunCall}
 use Rattle.uses.specs.Uses.{load, read, byte-time, run, Use, over, next, definedBy, documented, answeredBy, Answered, passedIn, passed, passesThen, madeThen, hostOf, dueAt}
@@ -79,8 +82,8 @@ module _ (mfm : Bool) (l : Lines) (p : Passed) (r : Ran) (row row′ : List ℕ)
 
   same-count : r .tally .passed ≡ cond (eqb (p .number) 0) 1 0
   unfolding Answered answeredBy powerOn lengthWithin freshMachine validOf ringWithin countsWithin busyIn byteTime byteTimeRow
-      rowRefusal doneBy cellTurn actApplied effectOf actOf begunActivity activityAct conditionMet runFrom runsOn stopsAt emptyRun
-      onward ranTo countedOf tallied
+      rowRefusal doneBy cellTurn actApplied effectOf actOf begunActivity activityAct bitOf conditionsFor classOf conditionMet
+      runFrom runsOn stopsAt emptyRun onward ranTo countedOf tallied
   same-count =
       ap (λ (a : Ran). a .tally .passed) (demand-2 .exactly (start mfm) _ by-run .1 .0)
       ∙ ap (λ (a : Passed). cond (eqb (a .number) 0) 1 0) (sym (demand-2 .exactly (start mfm) _ by-time .1 .0))

@@ -156,7 +156,7 @@ pub accepting-calls : (κs : Lfts 0)
     × OneAnswer (accepting.begin_wires.Reads.Learnt κs)
     × OneAnswer (accepting.begin_flags.Reads.Learnt κs)
     × OneAnswer (accepting.begin_head.Reads.Learnt κs)
-    × OneAnswer (accepting.begin_conditions.Reads.Learnt κs)
+    × OneAnswer (accepting.conditions_for.Reads.Learnt κs)
     × OneAnswer (accepting.begin_activity.Reads.Learnt κs)
 accepting-calls κs = (equation _, equation _, equation _, equation _, equation _, equation _, equation _, equation _)
 

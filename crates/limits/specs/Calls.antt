@@ -27,7 +27,6 @@ machineWith ring activity =
       flags = fresh .flags;
       head = fresh .head;
       past = fresh .past;
-      conditions = fresh .conditions;
       order = fresh .order;
       activity = activity;
     }

@@ -17,7 +17,6 @@ pub fn machine(ring: Ring, activity: Activity) -> Machine
     let flags = fresh.flags;
     let head = fresh.head;
     let past = fresh.past;
-    let conditions = fresh.conditions;
     let order = fresh.order;
     Machine {
         ring,
@@ -27,7 +26,6 @@ pub fn machine(ring: Ring, activity: Activity) -> Machine
         flags,
         head,
         past,
-        conditions,
         activity,
         order,
     }

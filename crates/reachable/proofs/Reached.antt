@@ -30,7 +30,7 @@ use Rattle.scan.specs.Rows.{lengthWithin}
 use Rattle.registers.specs.Rings.{ringWithin, ringNext, seenOf, conditionMet}
 use Rattle.wd.specs.Machines.{validOf, freshMachine, powerOn}
 use Rattle.registers.specs.Registers.{guarded, loadRefusal, loadRegs, loadWires}
-use Rattle.accepting.specs.Accepting.{writes, heldBy, asksFirst, beginRegs, beginWires, forcedFlags, beginFlags, beginHead, beginConditions, worksFrom, beginActivity}
+use Rattle.accepting.specs.Accepting.{writes, heldBy, asksFirst, beginRegs, beginWires, forcedFlags, beginFlags, beginHead, conditionsFor, worksFrom, beginActivity}
 use Rattle.wd.specs.Loads.{commandBegun, commandAnswer, loadRegister}
 use Rattle.effects.specs.Effects.{raisedSr, delivered, addressNamed, recordOver, recordRead, cellTaken, stepped, halted, effectOf}
 use Rattle.wd.specs.Turns.{actApplied, cellTurn}
@@ -130,7 +130,7 @@ unfolding crcBit putting seeking stopping settling searching scanning hearing aw
     windowCell afterRecord dataCell addressBegun huntStep huntCell addressTrack addressCell trackCell lastKept lastZero markPlace
     markCell preambleCell preambleNext preambleDeed preambleTurn takenOf putCell jobBegun begunActivity
     settleTurn activityAct actOf lengthWithin ringWithin validOf freshMachine powerOn guarded loadRefusal loadRegs loadWires
-    writes heldBy asksFirst beginRegs beginWires forcedFlags beginFlags beginHead beginConditions worksFrom beginActivity
+    writes heldBy asksFirst beginRegs beginWires forcedFlags beginFlags beginHead conditionsFor worksFrom beginActivity
     commandBegun commandAnswer loadRegister raisedSr delivered addressNamed recordOver recordRead cellTaken stepped halted effectOf ringNext seenOf conditionMet
     actApplied cellTurn rowRefusal refusedAt doneBy byteTime
 reached =

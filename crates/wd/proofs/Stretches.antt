@@ -28,7 +28,7 @@ use Rattle.stretch.proofs.Stretching.{busy-later, later-none}
 use Rattle.wd.specs.declared.Machine.{Machine}
 use Rattle.wd.specs.declared.Passed.{Passed}
 use Rattle.wd.specs.declared.Ran.{Ran}
-use Rattle.wd.specs.Turns.{actApplied, seesOf, doesOf, cellTurn}
+use Rattle.wd.specs.Turns.{conditionsOf, actApplied, seesOf, doesOf, cellTurn}
 use Rattle.wd.specs.Rows.{rowRefusal, under, refusedAt, doneBy, byteTime, byteTimeRow, tallied, countedOf, ranTo, emptyRun, stopsAt, Run, onward, runsOn}
 use Rattle.wd.specs.Stretches.{afterStretch, firstStretch, ranOn}
 use Rattle.wd.proofs.Valid.{Held, valid-ring, open-row, pass-open}
@@ -53,7 +53,6 @@ movedOf m ready a =
       flags = m .flags;
       head = m .head;
       past = record { ready = ready; index = false };
-      conditions = m .conditions;
       order = m .order;
       activity = a;
     }
@@ -72,11 +71,11 @@ module _ (m : Machine) (l : Lines) (cell : ℕ) (a : Activity)
 
   no-wire :
       (m .wires .intrq
-      || conditionMet (m .conditions) (m .past .ready) (l .ready) (eqb (m .ring .position) 0)
+      || conditionMet (conditionsOf m) (m .past .ready) (l .ready) (eqb (m .ring .position) 0)
       || (busyIn (m .activity) && not (busyIn a)))
       ≡ m .wires .intrq
   no-wire =
-      rw (busy, no-pulse, seen) (simp (told-none (m .conditions) (l .ready), and-not-self (busyIn (m .activity)), or-false))
+      rw (busy, no-pulse, seen) (simp (told-none (conditionsOf m) (l .ready), and-not-self (busyIn (m .activity)), or-false))
 
   turned-still : doesOf m l cell ≡ pass (seesOf m l cell) a Nothing
       → cellTurn m l cell ≡ record { machine = movedOf m (l .ready) a; cell = cell; pulse = pulse.Off }
@@ -202,7 +201,6 @@ module _ (l : Lines) (ran : Ran) (row : List ℕ) (quiet : Quiet l ran row) (lim
         flags = base .flags;
         head = base .head;
         past = record { ready = l .ready; index = false };
-        conditions = base .conditions;
         order = base .order;
         activity = activityAfter (suc (suc i)) (base .activity);
       })

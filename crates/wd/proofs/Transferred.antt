@@ -20,7 +20,7 @@ use Rattle.transfer.specs.declared.Transfer.{Transfer}
 use Rattle.transfer.specs.declared.Transfer.the-variants.{Nothing, Byte}
 use Rattle.transfer.proofs.Transferring.{Goes, Says, says}
 use Rattle.wd.specs.declared.Machine.{Machine}
-use Rattle.wd.specs.Turns.{partsOf, actApplied, seesOf, cellTurn}
+use Rattle.wd.specs.Turns.{conditionsOf, partsOf, actApplied, seesOf, cellTurn}
 use Rattle.wd.specs.Rows.{rowRefusal, under, doneBy, byteTime, byteTimeRow, tallied, countedOf, ranTo, emptyRun, stopsAt, onward, runsOn, runFrom}
 use Rattle.wd.specs.Transfers.{conditionsAsked, transferNow, afterTransfer, oneByteTime}
 use Rattle.wd.proofs.Runs.{at, open-run, one-more}
@@ -35,7 +35,7 @@ untold k was ready index e =
 -- the machine after it
 turned-over :
     (m : Machine) (l : Lines) (cell : ℕ) (next : Activity) (dr left : ℕ)
-    → conditionsAsked (m .conditions) ≡ false
+    → conditionsAsked (conditionsOf m) ≡ false
     → Goes (m .order) (seesOf m l cell) (m .activity) next dr left
     → cellTurn m l cell ≡ record { machine = afterTransfer m (l .ready) dr next; cell = left; pulse = pulse.Off }
 unfolding cellTurn actApplied afterTransfer seenOf delivered
@@ -45,7 +45,7 @@ turned-over m l cell next dr left none g =
       g .effect (partsOf m) refl,
       g .busy,
       and-false (busyIn (m .activity)),
-      untold (m .conditions) (m .past .ready) (l .ready) (eqb (m .ring .position) 0) none,
+      untold (conditionsOf m) (m .past .ready) (l .ready) (eqb (m .ring .position) 0) none,
       or-false (m .wires .intrq),
       or-false (m .wires .intrq),
     )
@@ -63,12 +63,12 @@ unfolding transferNow
 tells m l cell =
     by-cond (Tells m l cell) (ltb 511 cell) (λ e. tt)
     (λ e.
-    by-cond (Tells m l cell) (conditionsAsked (m .conditions)) (λ some. tt)
+    by-cond (Tells m l cell) (conditionsAsked (conditionsOf m)) (λ some. tt)
     (λ none. by e none (transferIn (seesOf m l cell) (m .activity)) (says (m .order) (seesOf m l cell) (m .activity))))
   where
     by :
         ltb 511 cell ≡ false
-        → conditionsAsked (m .conditions) ≡ false
+        → conditionsAsked (conditionsOf m) ≡ false
         → (h : Transfer)
         → Says (m .order) (seesOf m l cell) (m .activity) h
         → Tells m l cell h

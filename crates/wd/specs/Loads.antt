@@ -14,7 +14,7 @@ use Rattle.wd.specs.declared.Loaded.{Loaded}
 use Rattle.wd.specs.Machines.{validOf}
 use Rattle.wd.specs.Reads.{withBus}
 use Rattle.registers.specs.Registers.{loadRefusal, loadRegs, loadWires}
-use Rattle.accepting.specs.Accepting.{heldBy, endsAtOnce, asksFirst, beginRegs, beginWires, beginFlags, beginHead, beginConditions, beginActivity}
+use Rattle.accepting.specs.Accepting.{heldBy, endsAtOnce, asksFirst, beginRegs, beginWires, beginFlags, beginHead, beginActivity}
 
 -- ---- an accepted command
 
@@ -29,7 +29,6 @@ commandBegun m l b command =
       flags = beginFlags (m .flags) (heldBy command l) (busyIn (m .activity)) (classOf command);
       head = beginHead (m .head) (endsAtOnce command l) b (classOf command);
       past = m .past;
-      conditions = beginConditions b (classOf command);
       order = orderOf command b (m .head .inward);
       activity = beginActivity (endsAtOnce command l) (m .mfm) b (classOf command);
     }

@@ -5,7 +5,6 @@ use Rattle.command.specs.declared.Command.the-variants.{ForceInterrupt}
 use Rattle.activity.specs.Limits.{countsWithin}
 use Rattle.activity.specs.declared.Activity.the-variants.{Idle}
 use Rattle.registers.specs.declared.Flags.{Flags}
-use Rattle.registers.specs.declared.Conditions.{Conditions}
 use Rattle.wd.specs.declared.Machine.{Machine}
 use Rattle.wd.specs.declared.Started.{Started}
 use Rattle.scan.specs.Rows.{shortestRow, lengthWithin}
@@ -18,9 +17,6 @@ validOf m = ringWithin (m .ring) && countsWithin (m .activity)
 -- "Type I status", with nothing on
 abbrev pub clearFlags : Flags
 clearFlags = record { type1 = true; protected = false; deleted = false; missing = false; crc = false; lost = false }
-
-abbrev pub noConditions : Conditions
-noConditions = record { on = false; off = false; index = false }
 
 -- "It gives: position 0, track register (TR) 0, sector register (SR) 1, data register (DR) 0, direction out, head unloaded,
 -- idle, Ready last seen off, DRQ and INTRQ off, Type I status.": and all that it does not name is off, with the order of a
@@ -35,7 +31,6 @@ freshMachine length mfm =
       flags = clearFlags;
       head = record { loaded = false; inward = false };
       past = record { ready = false; index = false };
-      conditions = noConditions;
       order = record { command = ForceInterrupt; byte = 0; inward = false };
       activity = Idle;
     }

@@ -31,7 +31,6 @@ withBus m r w =
       flags = m .flags;
       head = m .head;
       past = m .past;
-      conditions = m .conditions;
       order = m .order;
       activity = m .activity;
     }

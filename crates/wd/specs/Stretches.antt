@@ -18,7 +18,6 @@ afterStretch m passed ready =
       flags = m .flags;
       head = m .head;
       past = record { ready = ready; index = false };
-      conditions = m .conditions;
       order = m .order;
       activity = activityAfter passed (m .activity);
     }

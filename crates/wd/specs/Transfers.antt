@@ -12,7 +12,7 @@ use Rattle.transfer.specs.declared.Transfer.{Transfer}
 use Rattle.transfer.specs.declared.Transfer.the-variants.{Nothing}
 use Rattle.wd.specs.declared.Machine.{Machine}
 use Rattle.wd.specs.declared.Ran.{Ran}
-use Rattle.wd.specs.Turns.{seesOf}
+use Rattle.wd.specs.Turns.{conditionsOf, seesOf}
 
 -- a condition of a Force Interrupt is asked
 abbrev pub conditionsAsked : Conditions → Bool
@@ -21,7 +21,7 @@ conditionsAsked k = k .on || k .off || k .index
 -- what is transferred, where the cell is not refused and no condition can be met
 unfoldable pub transferNow : Machine → Lines → ℕ → Transfer
 transferNow m l cell =
-    cond (ltb 511 cell) Nothing (cond (conditionsAsked (m .conditions)) Nothing (transferIn (seesOf m l cell) (m .activity)))
+    cond (ltb 511 cell) Nothing (cond (conditionsAsked (conditionsOf m)) Nothing (transferIn (seesOf m l cell) (m .activity)))
 
 -- the machine after it: DRQ is on, and Lost Data where it was still on
 unfoldable pub afterTransfer : Machine → Bool → ℕ → Activity → Machine
@@ -37,7 +37,6 @@ afterTransfer m ready dr next =
       flags = withLost (m .flags) (m .flags .lost || m .wires .drq);
       head = m .head;
       past = record { ready = ready; index = eqb (m .ring .position) 0 };
-      conditions = m .conditions;
       order = m .order;
       activity = next;
     }

@@ -1,10 +1,13 @@
 -- One byte time over the cell that passes: document 01, "The ring of cells". Assumes nothing.
 use mathlib.Core.Bool.{Bool, not, _&&_, _||_}
 use Prim.Native.Nat.{ℕ}
+use Rattle.command.specs.Commands.{classOf}
+use Rattle.accepting.specs.Accepting.{conditionsFor}
 use Rattle.activity.specs.Limits.{busyIn}
 use Rattle.act.specs.Turns.{actOf}
 use Rattle.activity.specs.declared.Act.{Act}
 use Rattle.activity.specs.declared.Seen.{Seen}
+use Rattle.registers.specs.declared.Conditions.{Conditions}
 use Rattle.registers.specs.declared.Lines.{Lines}
 use Rattle.wd.specs.declared.Machine.{Machine}
 use Rattle.wd.specs.declared.Turn.{Turn}
@@ -12,6 +15,10 @@ use Rattle.effects.specs.Effects.{effectOf}
 use Rattle.effects.specs.declared.Parts.{Parts}
 use Rattle.registers.specs.declared.Pulse.the-variants as pulse
 use Rattle.registers.specs.Rings.{ringNext, seenOf, conditionMet}
+
+-- "Any later command drops these.": the conditions are those of the last command
+abbrev pub conditionsOf : Machine → Conditions
+conditionsOf m = conditionsFor (m .order .byte) (classOf (m .order .command))
 
 -- what a deed can change, with no pulse reported yet
 abbrev pub partsOf : Machine → Parts
@@ -29,13 +36,12 @@ actApplied m a ready index =
           drq = effectOf (partsOf m) (a .deed) .drq;
           intrq =
               m .wires .intrq
-              || conditionMet (m .conditions) (m .past .ready) ready index
+              || conditionMet (conditionsOf m) (m .past .ready) ready index
               || (busyIn (m .activity) && not (busyIn (a .next)));
         };
         flags = effectOf (partsOf m) (a .deed) .flags;
         head = effectOf (partsOf m) (a .deed) .head;
         past = record { ready = ready; index = index };
-        conditions = m .conditions;
         order = m .order;
         activity = a .next;
       };

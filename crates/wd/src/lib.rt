@@ -2,10 +2,10 @@
 ghost use mathlib.Core.Path.{_≡_};
 ghost use Prim.Native.Nat.{_+_, _≤_, _<_};
 ghost use lib.ListN.{length};
-ghost use Rattle.wd.specs.Machines.{validOf, clearFlags, noConditions, freshMachine, powerOn};
+ghost use Rattle.wd.specs.Machines.{validOf, clearFlags, freshMachine, powerOn};
 ghost use Rattle.wd.specs.Reads.{statusOf, withBus, readRegister};
 ghost use Rattle.wd.specs.Loads.{commandBegun, commandAnswer, loadRegister};
-ghost use Rattle.wd.specs.Turns.{partsOf, actApplied, cellTurn};
+ghost use Rattle.wd.specs.Turns.{conditionsOf, partsOf, actApplied, cellTurn};
 ghost use Rattle.stretch.specs.Stretches.{stretchAhead};
 ghost use Rattle.wd.specs.Stretches.{afterStretch, firstStretch, ranOn};
 ghost use Rattle.wd.specs.Transfers.{transferNow, afterTransfer, oneByteTime};
@@ -42,7 +42,6 @@ pub struct Machine {
     pub flags: Flags,
     pub head: Head,
     pub past: Past,
-    pub conditions: Conditions,
     pub activity: Activity,
     pub order: Order,
 }
@@ -228,16 +227,6 @@ fn clear_flags() -> Flags
     }
 }
 
-fn no_conditions() -> Conditions
-    ensures { λ r. ⌜ r ≡ noConditions ⌝ }
-{
-    Conditions {
-        on: false,
-        off: false,
-        index: false,
-    }
-}
-
 // A run goes on for so many byte times. After one that has not stopped it, those in which nothing happens are passed at once.
 fn run_on(start: Ran, lines: Lines, limit: u16, row: &mut [u16]) -> Ran
     requires { ⌜ (rowRefusal (start .machine) (length (now row)) ≡ 0) × ((start .tally .passed + limit ≤ 65535) × ((start .tally .inward ≤ start .tally .passed) × (start .tally .outward ≤ start .tally .passed))) ⌝ }
@@ -290,7 +279,6 @@ impl Machine {
                 ready: false,
                 index: false,
             },
-            conditions: no_conditions(),
             order: Order {
                 command: Command::ForceInterrupt,
                 byte: 0,
@@ -401,7 +389,6 @@ impl Machine {
             flags: accepting::begin_flags(flags, held, activity::busy(activity), class),
             head: accepting::begin_head(head, ends, byte, class),
             past,
-            conditions: accepting::begin_conditions(byte, class),
             order: command::order_of(command, byte, head.inward),
             activity: accepting::begin_activity(ends, self.mfm, byte, class),
         }
@@ -448,6 +435,15 @@ impl Machine {
         }
     }
 
+    // The conditions that the last command asks for: a later one has dropped those of a Force Interrupt.
+    fn conditions(self) -> Conditions
+        ensures { λ r. ⌜ r ≡ conditionsOf self ⌝ }
+    {
+        let order = self.order;
+        let command = order.command;
+        accepting::conditions_for(order.byte, command::class_of(command))
+    }
+
     // The machine after an act, the cell as it is left, and the step pulse.
     fn applied(self, act: Act, ready: bool, index: bool) -> Turn
         ensures { λ r. ⌜ r ≡ actApplied self act ready index ⌝ }
@@ -456,7 +452,7 @@ impl Machine {
         let ring = self.ring;
         let wires = self.wires;
         let past = self.past;
-        let conditions = self.conditions;
+        let conditions = self.conditions();
         let order = self.order;
         let activity = self.activity;
         let ended = activity::busy(activity) & !activity::busy(next);
@@ -480,7 +476,6 @@ impl Machine {
                 flags,
                 head,
                 past: Past { ready, index },
-                conditions,
                 order,
                 activity: next,
             },
@@ -566,7 +561,6 @@ impl Machine {
         let wires = self.wires;
         let flags = self.flags;
         let head = self.head;
-        let conditions = self.conditions;
         let order = self.order;
         let activity = self.activity;
         Machine {
@@ -583,7 +577,6 @@ impl Machine {
                 ready,
                 index: false,
             },
-            conditions,
             order,
             activity: stretch::later(passed, activity),
         }
@@ -611,7 +604,7 @@ impl Machine {
         if 511 < cell {
             return Transfer::Nothing;
         }
-        let conditions = self.conditions;
+        let conditions = self.conditions();
         if conditions.on | conditions.off | conditions.index {
             return Transfer::Nothing;
         }
@@ -634,7 +627,6 @@ impl Machine {
         let mut wires = self.wires;
         let mut flags = self.flags;
         let head = self.head;
-        let conditions = self.conditions;
         let order = self.order;
         regs.dr = dr;
         flags.lost = flags.lost | wires.drq;
@@ -650,7 +642,6 @@ impl Machine {
                 ready,
                 index: ring.position == 0,
             },
-            conditions,
             order,
             activity: next,
         }

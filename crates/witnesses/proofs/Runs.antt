@@ -30,7 +30,7 @@ use Rattle.writing.specs.Writing.{lastKept, lastZero, markPlace, markCell, prea
 use Rattle.act.specs.Turns.{jobBegun, begunActivity, settleTurn, activityAct, actOf}
 use Rattle.registers.specs.Rings.{ringWithin, ringNext, seenOf, conditionMet}
 use Rattle.registers.specs.Registers.{readRefusal, readWires, guarded, loadRefusal, loadRegs, loadWires}
-use Rattle.accepting.specs.Accepting.{writes, heldBy, asksFirst, beginRegs, beginWires, beginFlags, beginHead, beginConditions, worksFrom, beginActivity}
+use Rattle.accepting.specs.Accepting.{writes, heldBy, asksFirst, beginRegs, beginWires, beginFlags, beginHead, conditionsFor, worksFrom, beginActivity}
 use Rattle.effects.specs.Effects.{raisedSr, effectOf, delivered, addressNamed, recordOver, recordRead, cellTaken, stepped, halted}
 use Rattle.fields.specs.Rings.{cellsOf}
 use Rattle.wd.specs.Machines.{validOf, freshMachine, powerOn}
@@ -152,7 +152,7 @@ unfolding allLow summary walked stepFrom deedOn takes loadsDr readsDr on-drq ser
     idFound searchStep searchCell afterRecord lastKept lastZero markPlace markCell preambleCell preambleNext preambleDeed
     preambleTurn takenOf putCell jobBegun begunActivity settleTurn activityAct actOf lengthWithin ringWithin ringNext seenOf
     conditionMet validOf freshMachine powerOn guarded loadRefusal loadRegs loadWires writes heldBy asksFirst beginRegs
-    beginWires beginFlags beginHead beginConditions worksFrom beginActivity commandBegun commandAnswer loadRegister raisedSr
+    beginWires beginFlags beginHead conditionsFor worksFrom beginActivity commandBegun commandAnswer loadRegister raisedSr
     actApplied cellTurn rowRefusal refusedAt doneBy byteTime byteTimeRow calledOf calledAll servedAt passesUnder at MarkAt
     cellsOf idFrom effectOf delivered addressNamed recordOver recordRead cellTaken stepped halted windowOf windowMissed
     windowStep windowCell readRefusal readWires readRegister deedAt

@@ -9,7 +9,7 @@ power-on-requires c κs = search needs
 
 returns : tie.Need-returns
 unfolding machineWith
-returns c = simp (c .before .before .before .before .before .before .before .before .power-on .ensures)
+returns c = simp (c .before .before .before .before .before .before .before .power-on .ensures)
 
 pub machine-spec : {M : Type 1} → statement M
 machine-spec = tie.close (tie.spec power-on-requires returns)

@@ -1,9 +1,12 @@
 -- `wd::Machine::applied` meets its contract, by its tests and its callees' contracts. Assumes nothing.
-use mathlib.Core.Path.{sym}
-use Rattle.wd.specs.Turns.{actApplied}
 use Rattle.wd.proofs.Machine.applied.Statement.{statement}
+use Rattle.wd.specs.Turns.{actApplied}
 use borrow.Author.Needs.{needs}
+use mathlib.Core.Path.{sym}
 use Rattle.wd.proofs.Machine.applied.Tie as tie
+
+conditions-requires : tie.Need-conditions-requires
+conditions-requires c κs = search needs
 
 busy-requires : tie.Need-busy-requires
 busy-requires c κs = search needs
@@ -25,20 +28,13 @@ next-requires c κs = search needs
 
 returns : tie.Need-returns
 unfolding actApplied
-returns c =
-    simp (
-      c .before .next .ensures,
-      c .before .before .before .before .before .after .ensures,
-      c .before .before .before .before .before .before .parts .ensures,
-      sym (c .before .before .before .before .before .before .before .condition-met .ensures),
-      sym (c .before .before .before .before .before .before .before .before .busy2 .ensures),
-      sym (c .before .before .before .before .before .before .before .before .before .busy .ensures),
-    )
+returns c = simp (sym (c .before .next .ensures), sym (c .before .before .before .before .before .after .ensures), sym (c .before .before .before .before .before .before .parts .ensures), sym (c .before .before .before .before .before .before .before .condition-met .ensures), sym (c .before .before .before .before .before .before .before .before .busy2 .ensures), sym (c .before .before .before .before .before .before .before .before .before .busy .ensures), sym (c .before .before .before .before .before .before .before .before .before .before .before .conditions .ensures))
 
 pub applied-spec : {M : Type 1} → statement M
 applied-spec =
     tie.close
     (tie.spec
+    conditions-requires
     busy-requires
     busy-requires-2
     condition-met-requires

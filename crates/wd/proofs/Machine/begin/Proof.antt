@@ -29,9 +29,6 @@ begin-flags-requires c κs = search needs
 begin-head-requires : tie.Need-begin-head-requires
 begin-head-requires c κs = search needs
 
-begin-conditions-requires : tie.Need-begin-conditions-requires
-begin-conditions-requires c κs = search needs
-
 order-of-requires : tie.Need-order-of-requires
 order-of-requires c κs = search needs
 
@@ -40,7 +37,7 @@ begin-activity-requires c κs = search needs
 
 returns : tie.Need-returns
 unfolding commandBegun
-returns c = simp (c .begin-activity .ensures, c .before .order-of .ensures, c .before .before .begin-conditions .ensures, c .before .before .before .begin-head .ensures, c .before .before .before .before .begin-flags .ensures, sym (c .before .before .before .before .before .busy .ensures), c .before .before .before .before .before .before .begin-wires .ensures, sym (c .before .before .before .before .before .before .before .asks .ensures), c .before .before .before .before .before .before .before .before .begin-regs .ensures, sym (c .before .before .before .before .before .before .before .before .before .before .held .ensures), c .before .before .before .before .before .before .before .before .before .before .before .class-of .ensures)
+returns c = simp (c .begin-activity .ensures, c .before .order-of .ensures, c .before .before .begin-head .ensures, c .before .before .before .begin-flags .ensures, sym (c .before .before .before .before .busy .ensures), c .before .before .before .before .before .begin-wires .ensures, sym (c .before .before .before .before .before .before .asks .ensures), c .before .before .before .before .before .before .before .begin-regs .ensures, sym (c .before .before .before .before .before .before .before .before .before .held .ensures), c .before .before .before .before .before .before .before .before .before .before .class-of .ensures)
 
 pub begin-spec : {M : Type 1} → statement M
 begin-spec =
@@ -54,7 +51,6 @@ begin-spec =
     busy-requires
     begin-flags-requires
     begin-head-requires
-    begin-conditions-requires
     order-of-requires
     begin-activity-requires
     returns)

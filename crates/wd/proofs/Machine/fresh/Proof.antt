@@ -7,12 +7,9 @@ use Rattle.wd.proofs.Machine.fresh.Tie as tie
 clear-flags-requires : tie.Need-clear-flags-requires
 clear-flags-requires c κs = search needs
 
-no-conditions-requires : tie.Need-no-conditions-requires
-no-conditions-requires c κs = search needs
-
 returns : tie.Need-returns
 unfolding freshMachine
-returns c = simp (c .no-conditions .ensures, c .before .clear-flags .ensures)
+returns c = simp (c .clear-flags .ensures)
 
 pub fresh-spec : {M : Type 1} → statement M
-fresh-spec = tie.close (tie.spec clear-flags-requires no-conditions-requires returns)
+fresh-spec = tie.close (tie.spec clear-flags-requires returns)
