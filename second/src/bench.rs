@@ -1,5 +1,6 @@
 // The bench: works one controller and two rows of cells from a script.
 
+use crate::chip::Chip;
 use crate::density::Density;
 use crate::layout;
 use crate::lines::Lines;
@@ -35,12 +36,12 @@ pub fn run(script: &[u8]) -> Vec<u8> {
 }
 
 impl Bench {
-    /// "Before the first P there is the power-on FM machine of 2,048 cells, the drive lines are
-    /// all off, and both rows hold 800 cells of 00FF."
+    /// "Before the first P there is the power-on FM machine of 2,048 cells", a 1793, "the drive
+    /// lines are all off, and both rows hold 800 cells of 00FF."
     pub fn new() -> Bench {
         let row = vec![layout::gap(Density::Fm); usize::from(SHORTEST_TRACK)];
         Bench {
-            machine: Machine::power_on(SHORTEST_TRACK, Density::Fm).machine,
+            machine: Machine::power_on(Chip::Wd1793, SHORTEST_TRACK, Density::Fm).machine,
             lines: Lines::default(),
             current: row.clone(),
             other: row,
@@ -51,7 +52,8 @@ impl Bench {
     /// What the line prints, or none where it cannot be carried out.
     pub fn carry_out(&mut self, line: &Line) -> Option<String> {
         match (line.letter, line.numbers.as_slice()) {
-            (b'P', &[density, length]) => self.power_on(density, length),
+            (b'P', &[density, length]) => self.power_on(density, length, Chip::Wd1793),
+            (b'P', &[density, length, chip]) => self.power_on(density, length, chip_of(chip)?),
             (b'N', &[bits]) => self.set_lines(bits),
             (b'W', &[register, byte]) => self.load_register(register, byte),
             (b'R', &[register]) => self.read_register(register),
@@ -70,7 +72,8 @@ impl Bench {
     }
 
     /// "The status byte that a read would give now under the present drive lines, 00 where a
-    /// read would be refused; TR, SR, DR, DRQ and INTRQ, and the head position."
+    /// read would be refused; TR, SR, DR, DRQ and INTRQ, and the head position"; of a 1797 the
+    /// side output too.
     fn state(&self) -> String {
         let machine = &self.machine;
         let status = if machine.is_in_range() {
@@ -78,21 +81,26 @@ impl Bench {
         } else {
             0
         };
+        let side_output = match machine.chip {
+            Chip::Wd1793 => String::new(),
+            Chip::Wd1797 => format!(" {}", machine.side_output),
+        };
         format!(
-            "| {:02X} {:02X} {:02X} {:02X} {} {} {:04X}",
+            "| {:02X} {:02X} {:02X} {:02X} {} {} {:04X}{}",
             status,
             machine.track,
             machine.sector,
             machine.data,
             u8::from(machine.data_request),
             u8::from(machine.interrupt_request),
-            machine.position
+            machine.position,
+            side_output
         )
     }
 
-    fn power_on(&mut self, density: u16, length: u16) -> Option<String> {
+    fn power_on(&mut self, density: u16, length: u16, chip: Chip) -> Option<String> {
         let density = density_of(density)?;
-        let answer = Machine::power_on(length, density);
+        let answer = Machine::power_on(chip, length, density);
         self.machine = answer.machine;
         if answer.number == number::DONE {
             self.current = vec![layout::gap(density); usize::from(length)];
@@ -249,6 +257,14 @@ fn density_of(number: u16) -> Option<Density> {
     match number {
         0 => Some(Density::Fm),
         1 => Some(Density::Mfm),
+        _ => None,
+    }
+}
+
+fn chip_of(number: u16) -> Option<Chip> {
+    match number {
+        0 => Some(Chip::Wd1793),
+        1 => Some(Chip::Wd1797),
         _ => None,
     }
 }

@@ -1,6 +1,9 @@
-// The command bytes: which are commands, and what their bits ask for.
+// The command bytes: which are commands of a chip, and what their bits ask for. A command carries what
+// differs between the chips, so search and transfer never ask which one it is.
 
+use crate::chip::Chip;
 use crate::density::Density;
+use crate::field::LengthCodes;
 
 #[derive(Clone, Copy, Debug, PartialEq, Eq)]
 pub enum Name {
@@ -17,31 +20,58 @@ pub enum Name {
     ForceInterrupt,
 }
 
-/// A byte that is a command.
+/// A byte that is a command, and what it asks for where the chips differ.
 #[derive(Clone, Copy, Debug, PartialEq, Eq)]
 pub struct Command {
     pub name: Name,
     pub byte: u8,
+    /// The side that an ID must bear to match; none where any side does.
+    pub side_asked: Option<u8>,
+    /// What goes to the side output at acceptance; none where the output stays as it is.
+    pub side_output: Option<u8>,
+    /// What the length code of an ID means.
+    pub length_codes: LengthCodes,
 }
 
 impl Command {
-    /// The command of a byte, if it is one; "the other 58 bytes are refused".
-    pub fn decode(byte: u8) -> Option<Command> {
-        let name = match byte {
-            0x00..=0x0F => Name::Restore,
-            0x10..=0x1F => Name::Seek,
-            0x20..=0x3F => Name::Step,
-            0x40..=0x5F => Name::StepIn,
-            0x60..=0x7F => Name::StepOut,
-            0x80..=0x9F if byte % 2 == 0 => Name::ReadSector,
-            0xA0..=0xBF => Name::WriteSector,
-            0xC0 | 0xC4 => Name::ReadAddress,
-            0xD0..=0xDF => Name::ForceInterrupt,
-            0xE0 | 0xE4 => Name::ReadTrack,
-            0xF0 | 0xF4 => Name::WriteTrack,
-            _ => return None,
+    /// The command of a byte, if the chip has it: the 1793 refuses 58 bytes, the 1797 52.
+    pub fn decode(byte: u8, chip: Chip) -> Option<Command> {
+        let command = Command {
+            name: name_of(byte, chip)?,
+            byte,
+            side_asked: None,
+            side_output: None,
+            length_codes: LengthCodes::Ibm,
         };
-        Some(Command { name, byte })
+        Some(match chip {
+            Chip::Wd1793 => command.with_side_compare(),
+            Chip::Wd1797 => command.with_side_select(),
+        })
+    }
+
+    /// The 1793, bits 3 and 1 of Type II: "C asks that the ID's side equal S".
+    fn with_side_compare(self) -> Command {
+        let compares = self.is_type_two() && self.bit(1);
+        Command {
+            side_asked: Some(u8::from(self.bit(3))).filter(|_| compares),
+            ..self
+        }
+    }
+
+    /// The 1797: "bit 3 of Type II becomes L and bit 1 becomes U; bit 1 of Type III commands is U
+    /// too". "U goes to the side output at acceptance, and for Type II the ID's side must equal
+    /// U."
+    fn with_side_select(self) -> Command {
+        let side = Some(u8::from(self.bit(1)));
+        Command {
+            side_asked: side.filter(|_| self.is_type_two()),
+            side_output: side.filter(|_| self.is_transfer()),
+            length_codes: match self.is_type_two() && !self.bit(3) {
+                true => LengthCodes::NonIbm,
+                false => LengthCodes::Ibm,
+            },
+            ..self
+        }
     }
 
     fn bit(self, place: u8) -> bool {
@@ -54,6 +84,11 @@ impl Command {
 
     pub fn forces(self) -> bool {
         self.name == Name::ForceInterrupt
+    }
+
+    /// Read Sector and Write Sector.
+    pub fn is_type_two(self) -> bool {
+        matches!(self.name, Name::ReadSector | Name::WriteSector)
     }
 
     /// Types II and III.
@@ -100,9 +135,9 @@ impl Command {
         self.bit(2)
     }
 
-    /// Type II, bits 1 and 3: "C asks that the ID's side equal S".
+    /// Whether an ID of this side may match; the whole byte is compared.
     pub fn wants_side(self, side: u8) -> bool {
-        !self.bit(1) || side == u8::from(self.bit(3))
+        self.side_asked.map_or(true, |asked| asked == side)
     }
 
     /// Write Sector, bit 0: the data mark is FB, or F8 for a deleted record.
@@ -132,4 +167,37 @@ pub struct Conditions {
     pub index: bool,
     pub ready_goes_off: bool,
     pub ready_comes_on: bool,
+}
+
+fn name_of(byte: u8, chip: Chip) -> Option<Name> {
+    match byte {
+        0x00..=0x0F => Some(Name::Restore),
+        0x10..=0x1F => Some(Name::Seek),
+        0x20..=0x3F => Some(Name::Step),
+        0x40..=0x5F => Some(Name::StepIn),
+        0x60..=0x7F => Some(Name::StepOut),
+        0x80..=0x9F if byte % 2 == 0 => Some(Name::ReadSector),
+        0xA0..=0xBF => Some(Name::WriteSector),
+        0xD0..=0xDF => Some(Name::ForceInterrupt),
+        0xC0..=0xFF if has_type_three_bits(byte, chip) => Some(type_three_name(byte)),
+        _ => None,
+    }
+}
+
+/// The low four bits of Type III: on both chips bit 2 is E, on the 1797 bit 1 is U; the others are
+/// 0.
+fn has_type_three_bits(byte: u8, chip: Chip) -> bool {
+    let flags = match chip {
+        Chip::Wd1793 => 0b0100,
+        Chip::Wd1797 => 0b0110,
+    };
+    byte & 0x0F & !flags == 0
+}
+
+fn type_three_name(byte: u8) -> Name {
+    match byte >> 4 {
+        0xC => Name::ReadAddress,
+        0xE => Name::ReadTrack,
+        _ => Name::WriteTrack,
+    }
 }

@@ -1,4 +1,4 @@
-// How many scripts show it, where a machine gets a sentence of document 01 wrong.
+// How many scripts show it, where a machine gets a sentence of the documents wrong.
 
 pub mod desk;
 mod slips;

@@ -68,10 +68,28 @@ pub struct Id {
     pub crc_good: bool,
 }
 
+/// What the two low bits of an ID's length mean.
+#[derive(Clone, Copy, Debug, PartialEq, Eq)]
+pub enum LengthCodes {
+    /// "128, 256, 512, 1,024": everywhere but on a 1797 with L 0.
+    Ibm,
+    /// "With L 0 the codes 0 to 3 mean 256, 512, 1,024, 128."
+    NonIbm,
+}
+
+impl LengthCodes {
+    /// By code 0 to 3.
+    pub fn sizes(self) -> [usize; 4] {
+        match self {
+            LengthCodes::Ibm => [128, 256, 512, 1024],
+            LengthCodes::NonIbm => [256, 512, 1024, 128],
+        }
+    }
+}
+
 impl Id {
-    /// "The two low bits of length give 128, 256, 512, 1,024."
-    pub fn size(&self) -> usize {
-        128 << (self.length & 3)
+    pub fn size(&self, codes: LengthCodes) -> usize {
+        codes.sizes()[usize::from(self.length & 3)]
     }
 }
 

@@ -10,10 +10,12 @@ mod formatting;
 mod fresh;
 mod line_ends;
 mod moving;
+mod power_on;
 mod refusing;
 mod searching;
 mod serving;
 mod settling;
+mod sides;
 mod soaking;
 mod sparse;
 mod stretching;
@@ -23,8 +25,9 @@ mod turns;
 mod viewing;
 
 use crate::bench::Bench;
+use crate::chip::Chip;
 use crate::density::Density;
-use crate::field::{self, FLAG};
+use crate::field::{self, LengthCodes, FLAG};
 use crate::layout;
 use crate::random::Random;
 use crate::script::{self, Parsed};
@@ -47,7 +50,7 @@ const TRACK_0: u8 = 4;
 const HEAD_LOADED: u8 = 8;
 
 /// Lines that cannot be carried out; one of them may end a script.
-const BAD_LINES: [&str; 18] = [
+const BAD_LINES: [&str; 21] = [
     "B 1",
     "G",
     "G 10000",
@@ -56,6 +59,9 @@ const BAD_LINES: [&str; 18] = [
     "R 100",
     "N 10",
     "P 2 800",
+    "P 0 800 2",
+    "P 1 800 FFFF",
+    "P 0 800 1 0",
     "K 1901",
     "V 1900 1",
     "F 0 1901 0",
@@ -71,24 +77,13 @@ const BAD_LINES: [&str; 18] = [
 /// A sound sector.
 #[derive(Clone, Copy)]
 struct Sector {
+    side: u8,
     number: u8,
-    /// The length code.
-    code: u8,
+    /// Bytes of its record.
+    size: usize,
     mark: u8,
     /// Cells from the ID's last one to the mark byte.
     mark_at: usize,
-}
-
-impl Sector {
-    /// 128 bytes, its mark well inside the window.
-    fn short(number: u8) -> Sector {
-        Sector {
-            number,
-            code: 0,
-            mark: 0xFB,
-            mark_at: 15,
-        }
-    }
 }
 
 struct Generator {
@@ -114,7 +109,7 @@ pub struct LongScript {
 /// The script of a seed.
 pub fn script(seed: u64) -> String {
     let mut generator = Generator::new(seed, Bench::new());
-    generator.begin();
+    generator.begin(seed);
     generator.take_turns(seed);
     if has_long_waits(seed) {
         generator.stretch();
@@ -136,7 +131,7 @@ pub fn has_long_waits(seed: u64) -> bool {
 /// The script of a seed in which at least so many byte times pass.
 pub fn long_script(seed: u64, byte_times: u64) -> LongScript {
     let mut generator = Generator::new(seed, Bench::new());
-    generator.begin();
+    generator.begin(seed);
     generator.take_soaking_turns(seed);
     while generator.bench.byte_times < byte_times {
         generator.soaking_scene();
@@ -161,19 +156,12 @@ impl Generator {
                 density: Density::Fm,
                 length: 2048,
                 track: 0,
+                side: 0,
+                length_codes: LengthCodes::Ibm,
                 first_sector: 1,
                 bad_ids: 8,
             },
             obstacles: Vec::new(),
-        }
-    }
-
-    /// Mostly power-on; now and then the machine that is there already gets a track.
-    fn begin(&mut self) {
-        if self.random.one_in(8) {
-            self.lay_random_track();
-        } else {
-            self.power_on();
         }
     }
 
@@ -203,7 +191,7 @@ impl Generator {
             }
             27 => self.chain_scene(),
             28 => self.late_write_scene(),
-            _ if self.random.one_in(4) => self.power_on(),
+            _ if self.random.one_in(4) => self.power_on_either(),
             _ => self.comment(),
         }
     }
@@ -274,6 +262,10 @@ impl Generator {
         self.set_wires(self.wires ^ wire);
     }
 
+    fn chip(&self) -> Chip {
+        self.bench.machine.chip
+    }
+
     fn is_busy(&self) -> bool {
         self.bench.machine.is_busy()
     }
@@ -304,34 +296,6 @@ impl Generator {
                 self.put_head(place);
             }
         }
-    }
-
-    /// A new machine with a new track; at times a refused length comes first.
-    fn power_on(&mut self) {
-        self.leave_traces();
-        let density = self.random.pick(&[Density::Fm, Density::Mfm]);
-        let letter = u8::from(density == Density::Mfm);
-        if self.random.one_in(3) {
-            let refused = self.random.pick(&[0, 0x7FF, 0x1901, 0xFFFF]);
-            self.say(format!("P {} {:X}", letter, refused));
-            self.byte_time();
-        }
-        let length = match self.random.below(8) {
-            0 => self.random.pick(&[6250, 6399, 6400]),
-            1 => self.random.between(2048, 6400),
-            2 | 3 => self.random.between(2048, 2300),
-            _ => self.random.pick(&[2048, 2048, 2049, 3125]),
-        };
-        self.plan = Plan {
-            density,
-            length,
-            track: self.random.pick(&[0, 0, 1, 40, 255]),
-            first_sector: self.random.pick(&[1, 1, 1, 0, 254]),
-            bad_ids: self.random.pick(&[8, 8, 8, 2, 1]),
-        };
-        self.say(format!("P {} {:X}", letter, length));
-        self.look_at_fresh();
-        self.lay_random_track();
     }
 
     fn lay_random_track(&mut self) {
@@ -369,6 +333,24 @@ impl Generator {
         self.say("U".to_string());
     }
 
+    /// A sector of the track's side with 128 bytes, its mark well inside the window.
+    fn short_sector(&self, number: u8) -> Sector {
+        Sector {
+            side: self.plan.side,
+            number,
+            size: 128,
+            mark: 0xFB,
+            mark_at: 15,
+        }
+    }
+
+    /// The ID of such a sector.
+    fn short_id(&self, number: u8) -> Vec<u16> {
+        let code = self.plan.code_of(128);
+        let bytes = [self.plan.track, self.plan.side, number, code];
+        layout::id_cells(self.plan.density, bytes)
+    }
+
     /// Lays a sector with a good ID and a good data CRC from a place on.
     fn lay_sector(&mut self, place: usize, sector: Sector) {
         let cells = self.sector_cells(sector);
@@ -385,9 +367,10 @@ impl Generator {
     /// Only the two low bits of the length count, and a flag on a data cell does not.
     fn sector_cells(&mut self, sector: Sector) -> Vec<u16> {
         let density = self.plan.density;
-        let length = sector.code + self.random.pick(&[0, 0, 0x54, 0xFC]);
-        let data = self.random.bytes(128 << sector.code);
-        let bytes = [self.plan.track, 0, sector.number, length];
+        let code = self.plan.code_of(sector.size);
+        let length = code + self.random.pick(&[0, 0, 0x54, 0xFC]);
+        let data = self.random.bytes(sector.size);
+        let bytes = [self.plan.track, sector.side, sector.number, length];
         let mut cells = layout::id_cells(density, bytes);
         let gap = sector.mark_at - field::mark_length(density);
         cells.resize(cells.len() + gap, layout::gap(density));

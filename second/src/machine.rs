@@ -3,6 +3,7 @@
 use std::mem;
 
 use crate::activity::Activity;
+use crate::chip::Chip;
 use crate::command::{Command, Conditions};
 use crate::density::Density;
 use crate::field::LARGEST_CELL;
@@ -22,6 +23,7 @@ pub enum Direction {
 /// The registers and what the machine is doing.
 #[derive(Clone, Debug, PartialEq, Eq)]
 pub struct Machine {
+    pub chip: Chip,
     pub length: u16,
     pub density: Density,
     pub position: u16,
@@ -41,6 +43,8 @@ pub struct Machine {
     pub data_request: bool,
     /// INTRQ.
     pub interrupt_request: bool,
+    /// The side output; on the 1793, which has none, always 0.
+    pub side_output: u8,
     pub status: Status,
     pub conditions: Conditions,
     pub activity: Activity,
@@ -92,24 +96,26 @@ pub fn length_in_range(length: usize) -> bool {
 }
 
 impl Machine {
-    /// Power-on. A length out of range leaves the "power-on FM machine of 2,048".
-    pub fn power_on(length: u16, density: Density) -> Answer {
+    /// Power-on. A length out of range leaves the "power-on FM machine of 2,048", of the chip that
+    /// was named.
+    pub fn power_on(chip: Chip, length: u16, density: Density) -> Answer {
         if !length_in_range(usize::from(length)) {
             return Answer {
                 number: number::LENGTH,
-                machine: Machine::fresh(SHORTEST_TRACK, Density::Fm),
+                machine: Machine::fresh(chip, SHORTEST_TRACK, Density::Fm),
             };
         }
         Answer {
             number: number::DONE,
-            machine: Machine::fresh(length, density),
+            machine: Machine::fresh(chip, length, density),
         }
     }
 
     /// "Position 0, TR 0, SR 1, DR 0, direction out, head unloaded, idle, Ready last seen off,
-    /// DRQ and INTRQ off, Type I status."
-    fn fresh(length: u16, density: Density) -> Machine {
+    /// DRQ and INTRQ off, Type I status"; and side output 0.
+    fn fresh(chip: Chip, length: u16, density: Density) -> Machine {
         Machine {
+            chip,
             length,
             density,
             position: 0,
@@ -122,6 +128,7 @@ impl Machine {
             index_seen: false,
             data_request: false,
             interrupt_request: false,
+            side_output: 0,
             status: Status::clear(StatusType::TypeOne),
             conditions: Conditions::default(),
             activity: Activity::Idle,
@@ -209,7 +216,7 @@ impl Machine {
             number::REGISTER
         } else if self.is_busy() && !loads_while_busy(register, byte) {
             number::BUSY
-        } else if register == 0 && Command::decode(byte).is_none() {
+        } else if register == 0 && Command::decode(byte, self.chip).is_none() {
             number::NO_COMMAND
         } else {
             number::DONE
@@ -219,7 +226,7 @@ impl Machine {
     fn take_register(&mut self, register: u8, byte: u8, lines: Lines) {
         match register {
             0 => {
-                if let Some(command) = Command::decode(byte) {
+                if let Some(command) = Command::decode(byte, self.chip) {
                     self.accept(command, lines);
                 }
             }
@@ -242,6 +249,8 @@ impl Machine {
             return;
         }
         self.data_request = false;
+        // "U goes to the side output at acceptance", also where the command ends at once.
+        self.side_output = command.side_output.unwrap_or(self.side_output);
         if command.is_type_one() {
             self.status = Status::clear(StatusType::TypeOne);
             self.accept_type_one(command);

@@ -1,7 +1,7 @@
 // Inputs for the list program made from a seed: sound pictures, cut ones and spoilt ones.
 
 use crate::density::Density;
-use crate::field;
+use crate::field::{self, LengthCodes};
 use crate::picture::Kind;
 use crate::random::Random;
 use crate::tracks::{self, Plan};
@@ -40,6 +40,8 @@ fn random_picture(random: &mut Random) -> Vec<u8> {
         density,
         length: kind.length(),
         track: random.byte(),
+        side: 0,
+        length_codes: LengthCodes::Ibm,
         first_sector: random.byte(),
         bad_ids: random.pick(&[8, 8, 2]),
     };

@@ -78,8 +78,8 @@ impl Machine {
         })
     }
 
-    /// "An ID matches if its track is TR and, for Type II, its sector is SR and, with C, its
-    /// side is S."
+    /// "An ID matches if its track is TR and, for Type II, its sector is SR", and its side the one
+    /// that the command asks for, if it asks for one.
     fn matches(&self, command: Command, id: &Id) -> bool {
         if command.is_type_one() {
             return id.track == self.track;
@@ -95,7 +95,7 @@ impl Machine {
             return Activity::Searching(search);
         }
         let command = search.command;
-        let size = id.size();
+        let size = id.size(command.length_codes);
         match command.name {
             Name::ReadSector => Activity::AwaitingDataMark(Window {
                 command,

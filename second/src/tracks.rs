@@ -1,7 +1,7 @@
 // Tracks made from a seed: sectors sound and damaged, laid round the ring, and noise.
 
 use crate::density::Density;
-use crate::field::{self, FLAG};
+use crate::field::{self, LengthCodes, FLAG};
 use crate::layout;
 use crate::random::Random;
 
@@ -12,10 +12,22 @@ pub struct Plan {
     pub length: usize,
     /// The track number that most IDs bear.
     pub track: u8,
+    /// The side that most IDs bear.
+    pub side: u8,
+    pub length_codes: LengthCodes,
     /// The number of the first sector.
     pub first_sector: u8,
     /// One ID in so many has a bad CRC.
     pub bad_ids: usize,
+}
+
+impl Plan {
+    /// The length code of a record of so many bytes.
+    pub fn code_of(&self, size: usize) -> u8 {
+        let sizes = self.length_codes.sizes();
+        let code = sizes.iter().position(|&it| it == size);
+        code.expect("a size that a code stands for") as u8
+    }
 }
 
 /// A whole track. It begins anywhere, so that some field often stands over the ring's end.
@@ -25,8 +37,8 @@ pub fn random_track(random: &mut Random, plan: Plan) -> Vec<u16> {
     let mut laid = 0;
     let mut sector = plan.first_sector;
     loop {
-        let code = random.pick(&[0, 0, 0, 0, 1, 1, 2, 2, 3]);
-        let piece = random_sector(random, plan, sector, code);
+        let size = random.pick(&[128, 128, 128, 128, 256, 256, 512, 512, 1024]);
+        let piece = random_sector(random, plan, sector, size);
         if laid + piece.len() > plan.length {
             break;
         }
@@ -44,16 +56,16 @@ pub fn random_track(random: &mut Random, plan: Plan) -> Vec<u16> {
 }
 
 /// An ID and, mostly, a data field in or just past its window.
-fn random_sector(random: &mut Random, plan: Plan, sector: u8, code: u8) -> Vec<u16> {
+fn random_sector(random: &mut Random, plan: Plan, sector: u8, size: usize) -> Vec<u16> {
     let mut cells = vec![0; random.pick(&[0, 1, 6, 12])];
     if plan.density == Density::Mfm && random.one_in(8) {
         // "The three flagged A1 cells just before the byte count", so a fourth does no harm.
         cells.push(FLAG + 0xA1);
     }
-    cells.extend(random_id(random, plan, sector, code));
+    cells.extend(random_id(random, plan, sector, plan.code_of(size)));
     cells.extend(random_gap(random, plan.density));
     let mark = random.pick(&[0xFB, 0xFB, 0xFB, 0xFB, 0xF8, 0xF8, 0xFA, 0xF9]);
-    let data = random.bytes(128 << code);
+    let data = random.bytes(size);
     cells.extend(random_data(random, plan.density, mark, &data));
     cells
 }
@@ -64,7 +76,8 @@ fn random_id(random: &mut Random, plan: Plan, sector: u8, code: u8) -> Vec<u16> 
     } else {
         plan.track
     };
-    let side = random.pick(&[0, 0, 0, 1, 1, 2, 0xFF]);
+    let (side, other) = (plan.side, plan.side ^ 1);
+    let side = random.pick(&[side, side, side, other, other, side + 2, 0xFF]);
     // Only the two low bits of the length count.
     let length = code + random.pick(&[0, 0, 0, 0x54, 0xFC]);
     let mut cells = layout::id_cells(plan.density, [track, side, sector, length]);

@@ -4,7 +4,7 @@ use std::ops::Range;
 
 use crate::crc;
 use crate::density::Density;
-use crate::field::{self, LARGEST_CELL};
+use crate::field::{self, LengthCodes, LARGEST_CELL};
 use crate::machine::length_in_range;
 use crate::number;
 
@@ -72,7 +72,7 @@ fn data_of_id(cells: &[u16], first: usize, wanted: Wanted) -> Option<Range<usize
     }
     let (place, mark) = field::first_data_mark(density, &cells[id_end..])?;
     let start = id_end + place;
-    let end = start + id.size();
+    let end = start + id.size(LengthCodes::Ibm);
     let behind_mark = cells.get(start..end + CRC_CELLS)?;
     let mut under_crc = field::mark_bytes(density, mark);
     under_crc.extend(behind_mark.iter().map(|&cell| field::byte_of(cell)));

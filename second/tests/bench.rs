@@ -126,27 +126,43 @@ fn unknown_letters_are_errors() {
 #[test]
 fn missing_and_extra_numbers_are_errors() {
     let counts = [
-        ("P", 2),
-        ("N", 1),
-        ("W", 2),
-        ("R", 1),
-        ("B", 0),
-        ("G", 1),
-        ("X", 1),
-        ("Y", 1),
+        ("P", 2..=3),
+        ("N", 1..=1),
+        ("W", 2..=2),
+        ("R", 1..=1),
+        ("B", 0..=0),
+        ("G", 1..=1),
+        ("X", 1..=1),
+        ("Y", 1..=1),
     ];
-    let rows = [("K", 1), ("F", 3), ("V", 2), ("U", 0), ("Q", 3)];
-    for (letter, count) in counts.iter().chain(rows.iter()) {
+    let rows = [
+        ("K", 1..=1),
+        ("F", 3..=3),
+        ("V", 2..=2),
+        ("U", 0..=0),
+        ("Q", 3..=3),
+    ];
+    for (letter, taken) in counts.iter().chain(rows.iter()) {
         for given in 0..5 {
             let line = format!("{}{}", letter, " 1".repeat(given));
-            assert_eq!(printed(&line) == "error 1\n", given != *count, "{}", line);
+            let is_error = printed(&line) == "error 1\n";
+            assert_eq!(is_error, !taken.contains(&given), "{}", line);
         }
     }
 }
 
 #[test]
 fn bytes_registers_lines_and_densities_have_their_limits() {
-    for bad in ["W 100 0", "W 0 100", "R 100", "N 10", "P 2 800", "Q 2 0 1"] {
+    for bad in [
+        "W 100 0",
+        "W 0 100",
+        "R 100",
+        "N 10",
+        "P 2 800",
+        "P 0 800 2",
+        "P 0 7FF FFFF",
+        "Q 2 0 1",
+    ] {
         assert_eq!(printed(bad), "error 1\n");
     }
     assert_eq!(printed("W FF FF"), "W 05 | 80 00 01 00 0 0 0000\n");
@@ -170,6 +186,57 @@ fn a_refused_power_on_keeps_the_rows() {
         state
     );
     assert_eq!(printed(script), expected);
+}
+
+#[test]
+fn before_the_first_power_on_the_machine_is_a_1793() {
+    assert_eq!(printed("W 0 C2"), "W 07 | 80 00 01 00 0 0 0000\n");
+}
+
+#[test]
+fn power_on_names_the_chip_or_leaves_the_1793_unnamed() {
+    for (line, expected) in [
+        ("P 1 800", "P 00 | 80 00 01 00 0 0 0000\n"),
+        ("P 1 800 0", "P 00 | 80 00 01 00 0 0 0000\n"),
+        ("P 1 800 1", "P 00 | 80 00 01 00 0 0 0000 0\n"),
+        ("P 1 7FF 0", "P 01 | 80 00 01 00 0 0 0000\n"),
+        ("P 1 7FF 1", "P 01 | 80 00 01 00 0 0 0000 0\n"),
+    ] {
+        assert_eq!(printed(line), expected);
+        assert_eq!(
+            last_line(&format!("P 0 900 1\nW 0 C2\n{}", line)),
+            expected.trim_end()
+        );
+    }
+}
+
+#[test]
+fn every_state_of_a_1797_ends_with_the_side_output() {
+    let script = "P 0 800 1\nN 9\nW 0 E2\nR 1\nW 0 D0\nB\nG 2\nX 5\nY 900\nY 800\nV 0 1\nW 0 C0\n";
+    let expected = "P 00 | 80 00 01 00 0 0 0000 0\n\
+                    N | 00 00 01 00 0 0 0000 0\n\
+                    W 00 | 01 00 01 00 0 0 0000 1\n\
+                    R 00 00 | 01 00 01 00 0 0 0000 1\n\
+                    W 00 | 00 00 01 00 0 0 0000 1\n\
+                    B 00 00 | 00 00 01 00 0 0 0001 1\n\
+                    G 00 0002 0000 0000 | 00 00 01 00 0 0 0003 1\n\
+                    X | 00 00 01 00 0 0 0005 1\n\
+                    Y | 00 00 01 00 0 0 0005 1\n\
+                    Y | 00 00 01 00 0 0 0005 1\n\
+                    V 00FF\n\
+                    W 00 | 01 00 01 00 0 0 0005 0\n";
+    assert_eq!(printed(script), expected);
+}
+
+#[test]
+fn the_example_of_two_sides_reads_a_sector_of_each() {
+    let path = concat!(env!("CARGO_MANIFEST_DIR"), "/../examples/two-sided.bench");
+    let script = std::fs::read_to_string(path).expect("the example is there");
+    let output = printed(&script);
+    assert_eq!(output.matches("\nR 00 B1 | ").count(), 128);
+    assert_eq!(output.matches("\nR 00 A0 | ").count(), 128);
+    assert!(output.contains("\nR 00 10 | 10 00 01 A0 0 0 0001 1\n"));
+    assert!(!output.contains("error"));
 }
 
 #[test]

@@ -18,12 +18,19 @@ const SOAK_BYTE_TIMES: u64 = 200_000;
 /// An ID at cell 100, on an FM ring of 2,048 cells, with Ready and HLT on.
 const SCENE: &str = "P 0 800\nN 9\nC 64 1FE 0 0 1 0 D2 C3\n";
 
+/// The same with a 1797.
+const TWO_SIDED_SCENE: &str = "P 0 800 1\nN 9\nC 64 1FE 0 0 1 0 D2 C3\n";
+
 /// Whether these lines, in the scene, show the machine that does this in place of what a sentence
 /// says that begins so.
 fn shows(lines: &[&str], says: &str, does: &str) -> bool {
+    scene_shows(SCENE, lines, says, does)
+}
+
+fn scene_shows(scene: &str, lines: &[&str], says: &str, does: &str) -> bool {
     let known = |row: &&(&str, &str)| row.0.starts_with(says) && row.1 == does;
     assert_eq!(rows().iter().filter(known).count(), 1, "{}: {}", says, does);
-    let script = format!("{}{}\n", SCENE, lines.join("\n"));
+    let script = format!("{}{}\n", scene, lines.join("\n"));
     shown(&script).iter().any(|row| known(&row))
 }
 
@@ -88,6 +95,48 @@ fn a_run_that_goes_on_is_shown() {
     let ends = |lines: &[&str]| shows(lines, "When it ends by itself", "INTRQ stays off (I)");
     assert!(ends(&["W 0 10", "G FFFF"]));
     assert!(!ends(&["W 0 10", "W 3 7", "G 3"]));
+}
+
+#[test]
+fn a_side_output_is_shown_where_it_changes() {
+    let output =
+        |lines: &[&str], does| scene_shows(TWO_SIDED_SCENE, lines, "U goes to the side", does);
+    assert!(output(&["W 0 C2"], "not by Type III"));
+    assert!(!output(&["W 0 C0"], "not by Type III"));
+    assert!(!output(&["W 0 8A"], "not by Type III"));
+    assert!(output(&["N 8", "W 0 C2"], "not if not ready"));
+    assert!(!output(&["N B", "W 0 AA"], "not if not ready"));
+    assert!(output(&["N B", "W 0 AA"], "not if protected"));
+    assert!(output(&["W 0 C2", "W 0 D0"], "Force Interrupt clears it"));
+    assert!(!output(&["W 0 C0", "W 0 D0"], "Force Interrupt clears it"));
+}
+
+#[test]
+fn a_side_compare_is_shown_where_the_id_bears_another() {
+    let compares =
+        |lines: &[&str]| scene_shows(TWO_SIDED_SCENE, lines, "for Type II the ID's", "any side");
+    assert!(compares(&["W 0 AA", "G FFFF"]));
+    assert!(!compares(&["W 0 A8", "G FFFF"]));
+    assert!(!compares(&["W 0 C2", "G FFFF"]));
+}
+
+#[test]
+fn what_the_1793_has_alone_is_shown_on_it_alone() {
+    let says = "An ID matches";
+    let lines = &["W 0 AA", "G FFFF"];
+    assert!(scene_shows(SCENE, lines, says, "any side"));
+    assert!(!scene_shows(TWO_SIDED_SCENE, lines, says, "any side"));
+}
+
+#[test]
+fn a_length_code_is_shown_at_the_end_of_its_record() {
+    let says = "With L 1 the length codes";
+    let ignores =
+        |lines: &[&str]| scene_shows(TWO_SIDED_SCENE, lines, says, "as before with L 0 too");
+    let served = vec!["W 3 0\nG FFFF"; 130].join("\n");
+    assert!(ignores(&["W 0 A0", "G FFFF", &served]));
+    assert!(!ignores(&["W 0 A8", "G FFFF", &served]));
+    assert!(!ignores(&["W 0 A0", "G FFFF", "W 3 0", "G FFFF"]));
 }
 
 #[test]

@@ -1,11 +1,12 @@
--- What an accepted command does at once, by its class: document 01, "Registers and commands". Assumes nothing.
+-- What an accepted command does at once, by its class: document 01, "Registers and commands", and document 02, i. Assumes nothing.
 use mathlib.Core.Bool.{Bool, true, false, cond, not, _&&_, _||_}
 use Prim.Native.Nat.{ℕ}
-use Rattle.command.specs.Bits.{loadsHead, settlesFirst, forcesAtOnce, forcesAtIndex, forcesAtNotReady, forcesAtReady}
+use Rattle.command.specs.Bits.{loadsHead, settlesFirst, selectsSide, forcesAtOnce, forcesAtIndex, forcesAtNotReady, forcesAtReady}
 use Rattle.command.specs.Commands.{isRestore}
 use Rattle.command.specs.Times.{settleTimeOf}
 use Rattle.command.specs.declared.Command.{Command}
 use Rattle.command.specs.declared.Command.the-variants.{Restore, Seek, Step, StepIn, StepOut, ReadSector, WriteSector, ReadAddress, ReadTrack, WriteTrack, ForceInterrupt}
+use Rattle.command.specs.declared.Chip.{Chip}
 use Rattle.command.specs.declared.Class.{Class}
 use Rattle.command.specs.declared.Class.the-variants.{Seeks, Steps, Works, Forces}
 use Rattle.activity.specs.declared.Activity.{Activity}
@@ -112,3 +113,10 @@ beginActivity ends mfm b Seeks = activity.Seek 1
 beginActivity ends mfm b Steps = activity.Pulse
 beginActivity ends mfm b Works = worksFrom ends (settlesFirst b) mfm
 beginActivity ends mfm b Forces = activity.Idle
+
+-- "U goes to the side output at acceptance": of Types II and III, also of one that ends at once; the other commands leave it
+unfoldable pub beginSide : Bool → Chip → ℕ → Class → Bool
+beginSide sso chip b Seeks = sso
+beginSide sso chip b Steps = sso
+beginSide sso chip b Works = selectsSide chip b
+beginSide sso chip b Forces = sso

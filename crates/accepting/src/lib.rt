@@ -1,7 +1,8 @@
 // What an accepted command does at once, by its class.
 ghost use mathlib.Core.Path.{_≡_};
-ghost use Rattle.accepting.specs.Accepting.{writes, heldBy, asksFirst, beginRegs, beginWires, forcedFlags, beginFlags, beginHead, conditionsFor, worksFrom, beginActivity};
+ghost use Rattle.accepting.specs.Accepting.{writes, heldBy, asksFirst, beginRegs, beginWires, forcedFlags, beginFlags, beginHead, conditionsFor, worksFrom, beginActivity, beginSide};
 use activity::Activity;
+use command::Chip;
 use command::Class;
 use command::Command;
 use registers::Conditions;
@@ -162,5 +163,15 @@ pub fn begin_activity(ends: bool, mfm: bool, byte: u8, class: Class) -> Activity
         Class::Steps => Activity::Pulse,
         Class::Works => works_from(ends, command::bits::settles_first(byte), mfm),
         Class::Forces => Activity::Idle,
+    }
+}
+
+// Types II and III set the side output, also one that ends at once; the other commands leave it.
+pub fn begin_side(sso: bool, chip: Chip, byte: u8, class: Class) -> bool
+    ensures { λ r. ⌜ r ≡ beginSide sso chip byte class ⌝ }
+{
+    match class {
+        Class::Works => command::bits::selects_side(chip, byte),
+        Class::Seeks | Class::Steps | Class::Forces => sso,
     }
 }

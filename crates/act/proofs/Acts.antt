@@ -111,7 +111,7 @@ module _ (o : Order) (s : Seen) where
         → Passes (Search n scan) (Search (pulses n) next) Nothing
     bad-match : {n : ℕ} {scan : Scan} → pulses n < 5 → Passes (Search n scan) (afresh (pulses n)) (Matched true)
     good-match :
-        {n : ℕ} {scan : Scan} (id : Id) → Passes (Search n scan) (afterMatch (id .length) (jobOf (o .command))) (Matched false)
+        {n : ℕ} {scan : Scan} (id : Id) → Passes (Search n scan) (afterMatch (o .ibm) (id .length) (jobOf (o .command))) (Matched false)
     -- Read Sector
     mark-met : {left n run crc : ℕ} {deleted : Bool} → Passes (Window left n run) (Data left crc deleted) Nothing
     window-goes-on :

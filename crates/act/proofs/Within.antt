@@ -19,10 +19,10 @@ use Rattle.scan.proofs.DataMarks.{window-most}
 use Rattle.command.specs.Bits.{isMultiple}
 use Rattle.command.specs.Commands.{jobOf}
 use Rattle.command.specs.Times.{settleTimeOf}
-use Rattle.command.specs.Sizes.{sizeOf}
+use Rattle.command.specs.Sizes.{fieldSize}
 use Rattle.command.specs.declared.Job.{Job}
 use Rattle.command.specs.declared.Order.{Order}
-use Rattle.command.proofs.Tables.{step-time-most, size-most}
+use Rattle.command.proofs.Tables.{step-time-most, field-size-most}
 use Rattle.activity.specs.Limits.{mostPulses, mostRead, mostWritten, lastPreamble, scanWithin, countsWithin}
 use Rattle.activity.specs.declared.Seen.{Seen}
 use Rattle.activity.specs.declared.Act.{Act}
@@ -94,15 +94,15 @@ settle-within false = refl
 
 -- ---- what a match serves, and what begins
 
-served-within : (length : ℕ) (j : Job) → IsWithin (afterMatch length j)
+served-within : (ibm : Bool) (length : ℕ) (j : Job) → IsWithin (afterMatch ibm length j)
 unfolding afterMatch countsWithin
-served-within length Job.Nothing = refl
-served-within length Job.Verify = refl
-served-within length Job.ReadSector = all (all (le-leb (sizeOf length + 2) mostRead (omega (arith, size-most length))) refl) refl
-served-within length Job.WriteSector = all (le-leb (sizeOf length + 3) mostWritten (omega (arith, size-most length))) refl
-served-within length Job.ReadAddress = refl
-served-within length Job.ReadTrack = refl
-served-within length Job.WriteTrack = refl
+served-within ibm length Job.Nothing = refl
+served-within ibm length Job.Verify = refl
+served-within ibm length Job.ReadSector = all (all (le-leb (fieldSize ibm length + 2) mostRead (omega (arith, field-size-most ibm length))) refl) refl
+served-within ibm length Job.WriteSector = all (le-leb (fieldSize ibm length + 3) mostWritten (omega (arith, field-size-most ibm length))) refl
+served-within ibm length Job.ReadAddress = refl
+served-within ibm length Job.ReadTrack = refl
+served-within ibm length Job.WriteTrack = refl
 
 begun-within : (s : Seen) (j : Job) → IsWithin (jobBegun s j)
 unfolding jobBegun countsWithin scanWithin
@@ -130,7 +130,7 @@ module _ (o : Order) (s : Seen) where
   passed (Passes.search-goes-on {scan} few e) h =
       all (below-five few) (rw e (looked (s .mfm) (s .cell) scan _ (row (s .mfm) (s .cell) (runIn scan))))
   passed (Passes.bad-match few) h = all (below-five few) refl
-  passed (Passes.good-match id) h = served-within (id .length) (jobOf (o .command))
+  passed (Passes.good-match id) h = served-within (o .ibm) (id .length) (jobOf (o .command))
   passed (Passes.mark-met {left} {n} {run}) h = field left n run h
   passed (Passes.window-goes-on {left} {n} {run} less e) h =
       let more = le-leb (n + 1) (longestWindow - 1) (omega (arith, window-most (s .mfm))) in

@@ -1,7 +1,7 @@
 -- The viewer and the machine agree: where the viewer finds a sector whose ID is the only one that the command goes by, a Read
 -- Sector hands over the bytes of the cells that the viewer hands back. Assumes nothing.
-use mathlib.Core.Path.{_≡_, refl, sym, ap, _∙_}
-use mathlib.Core.Bool.{Bool}
+use mathlib.Core.Path.{_≡_, refl, sym, ap, ap₂, _∙_}
+use mathlib.Core.Bool.{Bool, true}
 use mathlib.Core.List.{List, map}
 use mathlib.Core.Logic.{_⊎_, inl, inr}
 use Prim.Native.Nat.{ℕ, _+_, _-_, _%_, _<_}
@@ -11,7 +11,8 @@ use lib.ListN.{length, getD, drop, length-drop}
 use lib.Seq.{getD-drop}
 use Rattle.scan.specs.Marks.{byteOf}
 use Rattle.scan.specs.Streams.{idWidth, idFrom}
-use Rattle.command.specs.Sizes.{sizeOf}
+use Rattle.command.specs.Bits.{ibmLengths}
+use Rattle.command.specs.Sizes.{fieldSize}
 use Rattle.viewer.specs.declared.Place.{Place}
 use Rattle.viewer.specs.Views.{partOf, partCells}
 use Rattle.viewer.specs.Plain.{SectorAt, FirstSector}
@@ -42,6 +43,7 @@ use Rattle.agreement.proofs.SectorAfter.{in-row, deleted-told, sector-f
 module _ (s : Scene) (n p from to : ℕ) (reading : Reads s n)
     (sector : SectorAt (s .machine .mfm) (s .row) (s .machine .regs .tr) (s .machine .regs .sr) p from to)
     (suits : Suits s (idFrom (s .machine .mfm) (cellsOf (s .row)) p))
+    (lengths : ibmLengths (s .machine .chip) (s .byte) ≡ true)
     (only : (a b : OnRing s) → a .cell ≡ b .cell) where
   abbrev mfm : Bool
   mfm = s .machine .mfm
@@ -90,8 +92,10 @@ module _ (s : Scene) (n p from to : ℕ) (reading : Reads s n)
   size = foundSize found
 
   ends : to ≡ from + size
+  unfolding fieldSize
   ends =
-      sector .ends ∙ ap (λ (q : ℕ). from + sizeOf (idFrom mfm (cellsOf (s .row)) q .length)) (sym same-place)
+      sector .ends
+      ∙ ap₂ (λ (ibm : Bool) (q : ℕ). from + fieldSize ibm (idFrom mfm (cellsOf (s .row)) q .length)) (sym lengths) (sym same-place)
 
   many : to - from ≡ size
   many = omega (arith, ends)
@@ -187,13 +191,13 @@ module _ (s : Scene) (s0 s1 : List ℕ) (from to : ℕ) (viewed : Viewed s s0 s1
       record {
         track = its .is .is .of-track;
         sector = its .is .is .of-sector;
-        side = λ asks. viewed .side asks (its .p) (its .is);
+        side = viewed .side (its .p) (its .is);
         good = its .is .is .good;
       }
 
   -- whatever HLT does, if the command ends by itself
   pub agree-ended : (n : ℕ) → Reads s n → Agrees s s0 s1 from to n
-  agree-ended n reading = agrees s n (its .p) from to reading (its .is .is) its-suits (viewed .only) s0 s1 (its .part)
+  agree-ended n reading = agrees s n (its .p) from to reading (its .is .is) its-suits (viewed .lengths) (viewed .only) s0 s1 (its .part)
 
   -- "where the viewer finds a sector on a track whose ID is the only one of its track and sector, a Read Sector's data bytes
   -- are those cells' bytes": of every scene of demand 3, which says that it ends

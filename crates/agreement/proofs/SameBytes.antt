@@ -38,7 +38,8 @@ use Rattle.in_time.proofs.Scenes.{sceneOf, scene-asked, fresh, fresh-accepts}
 use Rattle.agreement.specs.Agreement.{placeIn, on-side-0, Viewed}
 use Rattle.agreement.proofs.Agreement.{agree}
 use Rattle.reachable.proofs.Samples.{sampleLength}
-use Rattle.command.specs.Bits.{settlesFirst, isMultiple, verifiesTrack, sideOf, sideAsked, markWritten}
+use Rattle.command.specs.Bits.{ibmLengths}
+use Rattle.command.specs.declared.Chip.the-variants.{Wd1793}
 
 -- cells 0 to 154: an FM ID of track 0, side 0, sector 1 and 128 bytes, a gap, a data mark, 128 times E5 and the CRC
 abbrev front : List ℕ
@@ -54,7 +55,7 @@ track = front ++ replicate 1893 0
 
 -- a Read Sector at power-on, TR 0 and SR 1
 abbrev scene : Scene
-scene = sceneOf (fresh false) track
+scene = sceneOf (fresh false Wd1793) track
 
 within : cellsWithin track ≡ true
 unfolding cellsWithin
@@ -62,7 +63,7 @@ within = refl
 
 asked : InTimePremises scene
 unfolding powerOn lengthWithin freshMachine
-asked = scene-asked (fresh false) track (fresh-accepts false) refl (cells-within track .0 within)
+asked = scene-asked (fresh false Wd1793) track (fresh-accepts false Wd1793) refl (cells-within track .0 within)
 
 -- the one ID of the track
 at-zero : (ring : OnRing scene) → ring .cell ≡ 0
@@ -95,11 +96,12 @@ unfolding placeOf viewRefusal firstPlace cellsWithin lengthWithin spanOn spanAmo
 finds = refl
 
 viewed : Viewed scene track track 25 153
-unfolding bitOf settlesFirst isMultiple verifiesTrack sideOf sideAsked markWritten
+unfolding bitOf powerOn lengthWithin freshMachine ibmLengths
 viewed =
     record {
       finds = on-side-0 refl finds;
-      side = λ asks. never (cc);
+      side = λ p first asks. never (cc);
+      lengths = refl;
       only = λ a b. at-zero a ∙ sym (at-zero b);
     }
 

@@ -1,15 +1,14 @@
 -- The viewer and the machine agree: the premises under which a Read Sector hands over the bytes that the viewer shows, and the
 -- conclusion. Assumes nothing.
 use mathlib.Core.Path.{_≡_}
-use mathlib.Core.Bool.{true, false, cond, not}
+use mathlib.Core.Bool.{true, false, not}
 use mathlib.Core.List.{List, map}
 use Prim.Native.Nat.{ℕ, suc, _+_, _-_, _≤_, _<_}
 use lib.Dec.{eqb}
 use lib.ListN.{getD}
 use Rattle.scan.specs.Marks.{byteOf}
 use Rattle.scan.specs.Streams.{idFrom}
-use Rattle.common.specs.Bits.{bitOf}
-use Rattle.command.specs.Bits.{isMultiple}
+use Rattle.command.specs.Bits.{isMultiple, ibmLengths}
 use Rattle.command.specs.Commands.{decodedOf}
 use Rattle.command.specs.declared.Command.the-variants.{ReadSector}
 use Rattle.command.specs.declared.Decoded.the-variants.{Taken}
@@ -24,7 +23,7 @@ use Rattle.wd.specs.Reads.{statusOf}
 use Rattle.wd.specs.Loads.{loadRegister}
 use Rattle.fields.specs.Rings.{cellsOf}
 use Rattle.hosts.specs.Hosts.{at, EndsAt, Undisturbed}
-use Rattle.hosts.specs.Scenes.{Scene, loaded}
+use Rattle.hosts.specs.Scenes.{Scene, loaded, SideSuits}
 use Rattle.hosts.specs.Bytes.{handed, LateAt}
 use Rattle.in_time.specs.Demand3.{OnRing}
 
@@ -33,7 +32,7 @@ use Rattle.in_time.specs.Demand3.{OnRing}
 -- The command of demand 3, whatever HLT does, if it ends: with HLT on throughout demand 3 says that it does.
 pub record Reads (s : Scene) (n : ℕ) : Type 0 where
   -- a single Read Sector: without m
-  pub reads : decodedOf (s .byte) ≡ Taken ReadSector
+  pub reads : decodedOf (s .machine .chip) (s .byte) ≡ Taken ReadSector
   pub single : isMultiple (s .byte) ≡ false
   -- accepted with the drive ready
   pub accepted : loadRegister (s .machine) (s .lines) 0 (s .byte) .number ≡ 0
@@ -61,13 +60,14 @@ pub data Finds (s : Scene) (s0 s1 : List ℕ) (from to : ℕ) : Type 0 where
 -- it finds a sector there, and the command can go by no other ID
 pub record Viewed (s : Scene) (s0 s1 : List ℕ) (from to : ℕ) : Type 0 where
   pub finds : Finds s s0 s1 from to
-  -- with C the sector's side is S: the viewer compares no side, so it is asked of the ID that it found, from cell p on
-  pub side : bitOf (s .byte) 1 ≡ true
-      → (p : ℕ)
+  -- the sector's side suits the command: the viewer compares no side, so it is asked of the ID that it found, from cell p on
+  pub side : (p : ℕ)
       → FirstSector (s .machine .mfm) (s .row) (s .machine .regs .tr) (s .machine .regs .sr) p from to
-      → idFrom (s .machine .mfm) (cellsOf (s .row)) p .side ≡ cond (bitOf (s .byte) 3) 1 0
+      → SideSuits (s .machine .chip) (s .byte) (idFrom (s .machine .mfm) (cellsOf (s .row)) p .side)
+  -- the length codes mean to the command what they mean to the viewer, which knows no chip: on the 1797, L is 1
+  pub lengths : ibmLengths (s .machine .chip) (s .byte) ≡ true
   -- the only one of its track and sector: no two IDs on the whole ring, over its end or not, match with a good CRC. One
-  -- with a bad CRC does not count, nor, with C, one of the other side.
+  -- with a bad CRC does not count, nor, where a side is asked for, one of the other side.
   pub only : (a b : OnRing s) → a .cell ≡ b .cell
 
 -- ---- conclusion

@@ -8,7 +8,8 @@ use native.Mathlib.Omega.{arith}
 use lib.ListN.{length-replicate, getD-replicate}
 use Rattle.common.proofs.Cases.{never}
 use Rattle.scan.specs.Rows.{lengthWithin}
-use Rattle.command.specs.Commands.{decodedOf}
+use Rattle.command.specs.Commands.{decodedByBoth, decodedWithU, decodedOf}
+use Rattle.command.specs.declared.Chip.the-variants.{Wd1793, Wd1797}
 use Rattle.command.specs.declared.Decoded.{Decoded}
 use Rattle.command.specs.declared.Decoded.the-variants.{NoCommand}
 use Rattle.activity.specs.Limits.{busyIn}
@@ -20,6 +21,7 @@ use Rattle.reachable.proofs.StatusBits.{status-busy}
 use Rattle.safe.specs.Demand1.{OutOfRange, Invalid, AboveFlagged, WhileBusy, IsCommand, Given, AtPowerOn, power-on-1, AtLoad, load-2, load-5, load-6, load-7, AtRead, read-2, read-5, AtByteTime, byte-time-2, byte-time-3, byte-time-4, AtRun, run-2, run-3, run-4}
 use Rattle.safe.specs.Viewer.{AtViewer, viewer-1, viewer-4, viewer-11}
 use Rattle.safe.proofs.Refusals.{valid, Takes, takes, refuses, named}
+use Rattle.command.specs.declared.Chip.{Chip}
 use Rattle.in_time.proofs.Scenes.{fresh}
 use Rattle.applied.specs.Refusals.{high}
 
@@ -40,12 +42,21 @@ refused : {X : Type 0} {d : Decoded} → Takes X d → d ≡ NoCommand → X →
 refused (takes c x) e = never (cc)
 refused (refuses none) e = none
 
-pub is-none : IsCommand 0x9F → ⊥
-unfolding decodedOf
-is-none = refused (named 0x9F) refl
+pub is-none : (chip : Chip) → IsCommand chip 0x9F → ⊥
+unfolding decodedOf decodedByBoth decodedWithU
+is-none Wd1793 = refused (named Wd1793 0x9F) refl
+is-none Wd1797 = refused (named Wd1797 0x9F) refl
 
-is-one : IsCommand 0x80
-is-one = inr (inr (inr (inr (inr (inl ((omega arith, omega arith), refl))))))
+pub is-one : (chip : Chip) → IsCommand chip 0x80
+is-one chip = inl (inr (inr (inr (inr (inr (inl ((omega arith, omega arith), refl)))))))
+
+-- C2 has U
+pub none-without-u : IsCommand Wd1793 0xC2 → ⊥
+unfolding decodedOf decodedByBoth decodedWithU
+none-without-u = refused (named Wd1793 0xC2) refl
+
+pub one-with-u : IsCommand Wd1797 0xC2
+one-with-u = inr (inl (inl refl))
 
 -- ---- no earlier condition is met
 
@@ -56,46 +67,47 @@ pub before-one : (j : ℕ) → j < 1 → AtPowerOn 2047 j → ⊥
 before-one j low (power-on-1 c) = omega arith
 
 -- the cell under the head at power-on
-pub cell-high : (mfm : Bool) → AboveFlagged (fresh mfm) high
+pub cell-high : (mfm : Bool) (chip : Chip) → AboveFlagged (fresh mfm chip) high
 unfolding powerOn lengthWithin freshMachine
-cell-high mfm = omega (arith, getD-replicate {A = ℕ} sampleLength 0 512 0 (omega arith))
+cell-high mfm chip = omega (arith, getD-replicate {A = ℕ} sampleLength 0 512 0 (omega arith))
 
-module _ (mfm : Bool) (l : Lines) where
-  sound : Invalid (fresh mfm) → ⊥
-  sound = valid (fresh mfm) (power-on-valid sampleLength mfm)
+module _ (mfm : Bool) (chip : Chip) (l : Lines) where
+  sound : Invalid (fresh mfm chip) → ⊥
+  sound = valid (fresh mfm chip) (power-on-valid sampleLength mfm chip)
 
-  idle : (number b : ℕ) → WhileBusy (fresh mfm) l number b → ⊥
+  idle : (number b : ℕ) → WhileBusy (fresh mfm chip) l number b → ⊥
   unfolding busyIn powerOn lengthWithin freshMachine
-  idle number b c = true≢false (sym (c .busy) ∙ status-busy (fresh mfm) l (power-on-valid sampleLength mfm))
+  idle number b c = true≢false (sym (c .busy) ∙ status-busy (fresh mfm chip) l (power-on-valid sampleLength mfm chip))
 
-  pub taken : (j : ℕ) → AtLoad (fresh mfm) l 0 0x80 j → ⊥
-  taken j (load-2 c) = sound c
-  taken j (load-5 c) = omega (arith, c)
-  taken j (load-6 c) = idle 0 0x80 c
-  taken j (load-7 z c) = c is-one
+  pub taken : (b : ℕ) → IsCommand chip b → (j : ℕ) → AtLoad (fresh mfm chip) l 0 b j → ⊥
+  unfolding powerOn lengthWithin freshMachine
+  taken b is j (load-2 c) = sound c
+  taken b is j (load-5 c) = omega (arith, c)
+  taken b is j (load-6 c) = idle 0 b c
+  taken b is j (load-7 z c) = c is
 
-  pub before-seven : (j : ℕ) → j < 7 → AtLoad (fresh mfm) l 0 0x9F j → ⊥
-  before-seven j low (load-2 c) = sound c
-  before-seven j low (load-5 c) = omega (arith, c)
-  before-seven j low (load-6 c) = idle 0 0x9F c
-  before-seven j low (load-7 z c) = omega arith
+  pub before-seven : (b j : ℕ) → j < 7 → AtLoad (fresh mfm chip) l 0 b j → ⊥
+  before-seven b j low (load-2 c) = sound c
+  before-seven b j low (load-5 c) = omega (arith, c)
+  before-seven b j low (load-6 c) = idle 0 b c
+  before-seven b j low (load-7 z c) = omega arith
 
-  pub before-five : (j : ℕ) → j < 5 → AtRead (fresh mfm) 4 j → ⊥
+  pub before-five : (j : ℕ) → j < 5 → AtRead (fresh mfm chip) 4 j → ⊥
   before-five j low (read-2 c) = sound c
   before-five j low (read-5 c) = omega arith
 
-  pub before-four : (j : ℕ) → j < 4 → AtByteTime (fresh mfm) high j → ⊥
+  pub before-four : (j : ℕ) → j < 4 → AtByteTime (fresh mfm chip) high j → ⊥
   unfolding powerOn lengthWithin freshMachine
   before-four j low (byte-time-2 c) = sound c
   before-four j low (byte-time-3 c) = c (length-replicate {A = ℕ} sampleLength 512)
   before-four j low (byte-time-4 c) = omega arith
 
-  pub before-three : (limit j : ℕ) → j < 3 → AtRun (fresh mfm) l limit [] j → ⊥
+  pub before-three : (limit j : ℕ) → j < 3 → AtRun (fresh mfm chip) l limit [] j → ⊥
   before-three limit j low (run-2 c) = sound c
   before-three limit j low (run-3 c) = omega arith
   before-three limit j low (run-4 n comes c) = omega arith
 
-  pub before-stopped : (limit j : ℕ) → j < 4 → AtRun (fresh mfm) l limit high j → ⊥
+  pub before-stopped : (limit j : ℕ) → j < 4 → AtRun (fresh mfm chip) l limit high j → ⊥
   unfolding powerOn lengthWithin freshMachine
   before-stopped limit j low (run-2 c) = sound c
   before-stopped limit j low (run-3 c) = c (length-replicate {A = ℕ} sampleLength 512)

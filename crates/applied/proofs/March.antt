@@ -27,7 +27,7 @@ cleared : (c : Accepted) (e : Desk) (u : Use (since c) e)
     → passed u ≡ 0
     → (l : Lines) (r : Read)
     → ReadCall (e .machine) l 0 r
-    → ReadByte (c .byte) ⊎ WriteByte (c .byte)
+    → ReadByte (c .machine .chip) (c .byte) ⊎ WriteByte (c .machine .chip) (c .byte)
     → bitOf (r .byte) lostDataBit ≡ true
     → ⊥
 cleared c e u alone zero l r call (inl byte) lost =

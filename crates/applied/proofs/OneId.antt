@@ -22,6 +22,7 @@ use Rattle.reachable.specs.ByteTimes.{turnsOn}
 use Rattle.hosts.specs.Scenes.{Scene, Suits}
 use Rattle.hosts.specs.Tracks.{passing}
 use Rattle.in_time.specs.Demand3.{streamOf, OnRing, FirstWhole, windowCells, MarkInWindow}
+use Rattle.command.specs.declared.Chip.the-variants.{Wd1793}
 use Rattle.in_time.proofs.Scenes.{fresh}
 use Rattle.witnesses.proofs.Scenes.{unmarked, id-at}
 use Rattle.uses.specs.Courses.{silent}
@@ -36,7 +37,7 @@ the-id = record { track = 0; side = 0; sector = 1; length = 0; good = true }
 
 module _ (l : Lines) where
   abbrev pub scene : List ℕ → Scene
-  scene row = record { machine = fresh false; lines = l; byte = 0x80; row = row; host = silent }
+  scene row = record { machine = fresh false Wd1793; lines = l; byte = 0x80; row = row; host = silent }
 
   suits : (row : List ℕ) → Suits (scene row) the-id
   unfolding bitOf powerOn lengthWithin freshMachine
@@ -93,7 +94,7 @@ module _ (l : Lines) where
   served-30 (inl nowhere) = nowhere ring-30
   served-30 (inr (k, first, none)) = by (decLt 6 k) (first .ends)
     where
-      by : Dec (6 < k) → IdEnds (fresh false .mfm) (streamOf (scene thirtieth)) k (first .id) → ⊥
+      by : Dec (6 < k) → IdEnds (fresh false Wd1793 .mfm) (streamOf (scene thirtieth)) k (first .id) → ⊥
       by (yes late) ends = first .first 6 late (first-30 .id) (first-30 .ends) (first-30 .suits)
       by (no early) (a, p, stands, says) = none (mark-30 k (omega arith) (omega arith))
 

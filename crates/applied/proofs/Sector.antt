@@ -14,7 +14,8 @@ use Rattle.fields.specs.Rings.{cellsOf}
 use Rattle.wd.specs.declared.Machine.{Machine}
 use Rattle.wd.specs.Machines.{freshMachine, powerOn}
 use Rattle.exact.specs.Demand2.{JustOne, NoMark, after, clearCells}
-use Rattle.served.specs.Served.{fieldBytes}
+use Rattle.served.specs.Served.{byCode, fieldBytes}
+use Rattle.command.specs.declared.Chip.the-variants.{Wd1793}
 use Rattle.in_time.proofs.Scenes.{fresh}
 use Rattle.witnesses.proofs.Planned.{just-one, no-mark}
 use Rattle.witnesses.proofs.Runs.{fm, runs}
@@ -32,7 +33,7 @@ same-flags place low high =
 
 module _ (t : WriteThenRead) (is : FirstSector t) where
   -- what holds of the machine at power-on and the track holds of this write's
-  carried : (P : Machine → List ℕ → Type 0) → P (fresh false) oneSector → P (t .write .machine) (t .write .row)
+  carried : (P : Machine → List ℕ → Type 0) → P (fresh false Wd1793) oneSector → P (t .write .machine) (t .write .row)
   carried P = subst (λ (q : Machine × List ℕ). P (q .0) (q .1)) (λ i. (sym (is .machine) i, sym (is .row) i))
 
   pub sector-asked : ReadBackAsked t 0
@@ -56,9 +57,9 @@ module _ (t : WriteThenRead) (is : FirstSector t) where
       }
 
   -- "The two low bits of length give 128, ..": the ID's are 00
-  size : fieldBytes (idFrom (t .write .machine .mfm) (cellsOf (t .write .row)) 0 .length) ≡ 128
-  unfolding powerOn lengthWithin freshMachine fieldBytes idFrom leadOf cellsOf
-  size = carried (λ m row. fieldBytes (idFrom (m .mfm) (cellsOf row) 0 .length) ≡ 128) refl
+  size : fieldBytes (t .write .machine .chip) (t .write .byte) (idFrom (t .write .machine .mfm) (cellsOf (t .write .row)) 0 .length) ≡ 128
+  unfolding powerOn lengthWithin freshMachine fieldBytes byCode idFrom leadOf cellsOf
+  size = carried (λ m row. fieldBytes (m .chip) (t .write .byte) (idFrom (m .mfm) (cellsOf row) 0 .length) ≡ 128) refl
 
   module _ (served : Serves t) where
     back : ReadBack t 0

@@ -38,7 +38,7 @@ pub record MarchAgain : Type 0 where
   pub idle-host : (d : Desk) (k : ℕ) → PutOver silent d k → at silent d (suc k) .machine .flags .lost ≡ true
   -- a write that ends without Lost Data lacked no byte
   pub written : (c : Accepted) (course : Course c)
-      → WriteByte (c .byte)
+      → WriteByte (c .machine .chip) (c .byte)
       → Shows (course .after) lostDataBit false
       → (k : ℕ)
       → k < took course
@@ -46,7 +46,7 @@ pub record MarchAgain : Type 0 where
       → ⊥
   -- and "an accepted command .. clears .. Lost Data": it is off up to the first byte time
   pub cleared : (c : Accepted) (e : Desk) (u : Use (since c) e)
-      → ReadByte (c .byte) ⊎ WriteByte (c .byte)
+      → ReadByte (c .machine .chip) (c .byte) ⊎ WriteByte (c .machine .chip) (c .byte)
       → throughout noCommand u ≡ true
       → passed u ≡ 0
       → Shows e lostDataBit false

@@ -12,6 +12,8 @@ use Rattle.wd.specs.declared.Read.{Read}
 use Rattle.wd.specs.declared.Passed.{Passed}
 use Rattle.wd.specs.declared.Ran.{Ran}
 use Rattle.reachable.proofs.Samples.{sampleLength}
+use Rattle.command.specs.declared.Chip.{Chip}
+use Rattle.command.specs.declared.Chip.the-variants.{Wd1793, Wd1797}
 use Rattle.in_time.proofs.Scenes.{fresh}
 use Rattle.uses.specs.Contracts.{PowerOnCall, LoadCall, ReadCall, ByteTimeCall, RunCall, PictureCall, ViewCall, NumberCall}
 
@@ -19,36 +21,41 @@ use Rattle.uses.specs.Contracts.{PowerOnCall, LoadCall, ReadCall, ByteTimeCall,
 abbrev pub high : List ℕ
 high = replicate sampleLength 512
 
--- the machine at power-on, of either density, under any lines
+-- the machine at power-on, of either density and chip, under any lines
 pub record Refusals : Type 0 where
   -- "L 2,047, 6,401 refused 1": "power-on FM machine of 2,048"
-  pub short : (mfm : Bool) (r : Started) → PowerOnCall 2047 mfm r → (r .number ≡ 1) × (r .machine ≡ fresh false)
+  pub short : (mfm : Bool) (chip : Chip) (r : Started) → PowerOnCall 2047 mfm chip r → (r .number ≡ 1) × (r .machine ≡ fresh false chip)
   -- "80, C4 accepted; 9F, C3 refused 7"
-  pub command : (mfm : Bool) (l : Lines) (r : Loaded) → LoadCall (fresh mfm) l 0 0x80 r → r .number ≡ 0
-  pub no-command : (mfm : Bool) (l : Lines) (r : Loaded)
-      → LoadCall (fresh mfm) l 0 0x9F r
-      → (r .number ≡ 7) × (r .machine ≡ fresh mfm)
+  pub command : (mfm : Bool) (chip : Chip) (l : Lines) (r : Loaded) → LoadCall (fresh mfm chip) l 0 0x80 r → r .number ≡ 0
+  pub no-command : (mfm : Bool) (chip : Chip) (l : Lines) (r : Loaded)
+      → LoadCall (fresh mfm chip) l 0 0x9F r
+      → (r .number ≡ 7) × (r .machine ≡ fresh mfm chip)
+  -- "C2, C6, E2, E6, F2, F6 become commands for this chip only"
+  pub with-u : (mfm : Bool) (l : Lines) (r : Loaded) → LoadCall (fresh mfm Wd1797) l 0 0xC2 r → r .number ≡ 0
+  pub without-u : (mfm : Bool) (l : Lines) (r : Loaded)
+      → LoadCall (fresh mfm Wd1793) l 0 0xC2 r
+      → (r .number ≡ 7) × (r .machine ≡ fresh mfm Wd1793)
   -- 5: "as given, byte 0"
-  pub no-register : (mfm : Bool) (l : Lines) (r : Read)
-      → ReadCall (fresh mfm) l 4 r
-      → (r .number ≡ 5) × (r .machine ≡ fresh mfm) × (r .byte ≡ 0)
+  pub no-register : (mfm : Bool) (chip : Chip) (l : Lines) (r : Read)
+      → ReadCall (fresh mfm chip) l 4 r
+      → (r .number ≡ 5) × (r .machine ≡ fresh mfm chip) × (r .byte ≡ 0)
   -- 4: "the cell under the head .. is above 511"
-  pub above : (mfm : Bool) (l : Lines) (r : Passed) (row : List ℕ)
-      → ByteTimeCall (fresh mfm) l high r row
-      → (r .number ≡ 4) × (r .machine ≡ fresh mfm) × (row ≡ high)
+  pub above : (mfm : Bool) (chip : Chip) (l : Lines) (r : Passed) (row : List ℕ)
+      → ByteTimeCall (fresh mfm chip) l high r row
+      → (r .number ≡ 4) × (r .machine ≡ fresh mfm chip) × (row ≡ high)
   -- 3: "lent track is not L cells", in a run: nothing is counted
-  pub no-track : (mfm : Bool) (l : Lines) (limit : ℕ) (r : Ran) (row : List ℕ)
-      → RunCall (fresh mfm) l limit [] r row
+  pub no-track : (mfm : Bool) (chip : Chip) (l : Lines) (limit : ℕ) (r : Ran) (row : List ℕ)
+      → RunCall (fresh mfm chip) l limit [] r row
       → (r .number ≡ 3)
-      × (r .machine ≡ fresh mfm)
+      × (r .machine ≡ fresh mfm chip)
       × (row ≡ [])
       × (r .tally ≡ record { passed = 0; inward = 0; outward = 0 })
   -- 4 in a run: "with the count passed until then"
-  pub stopped : (mfm : Bool) (l : Lines) (limit : ℕ) (r : Ran) (row : List ℕ)
+  pub stopped : (mfm : Bool) (chip : Chip) (l : Lines) (limit : ℕ) (r : Ran) (row : List ℕ)
       → 0 < limit
-      → RunCall (fresh mfm) l limit high r row
+      → RunCall (fresh mfm chip) l limit high r row
       → (r .number ≡ 4)
-      × (r .machine ≡ fresh mfm)
+      × (r .machine ≡ fresh mfm chip)
       × (row ≡ high)
       × (r .tally ≡ record { passed = 0; inward = 0; outward = 0 })
   -- 9: "picture .. is empty"

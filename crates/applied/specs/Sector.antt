@@ -4,6 +4,7 @@ use mathlib.Core.Bool.{true, false}
 use mathlib.Core.List.{List, _++_}
 use Prim.Native.Nat.{ℕ}
 use lib.ListN.{length, replicate}
+use Rattle.command.specs.declared.Chip.the-variants.{Wd1793}
 use Rattle.in_time.proofs.Scenes.{fresh}
 use Rattle.witnesses.proofs.Runs.{id-side-0}
 use Rattle.uses.specs.Courses.{deletedBit, Shows, Showed, NoErrorBit}
@@ -16,7 +17,7 @@ oneSector = id-side-0 ++ replicate 2041 0x00
 -- A0 (Write Sector) loaded into the machine at power-on, with TR 0 and SR 1, over that track; it ends with no error bit, and
 -- 80 (Read Sector) is the next command
 pub record FirstSector (t : WriteThenRead) : Type 0 where
-  pub machine : t .write .machine ≡ fresh false
+  pub machine : t .write .machine ≡ fresh false Wd1793
   pub row : t .write .row ≡ oneSector
   pub writes : t .write .byte ≡ 0xA0
   pub ready : t .write .lines .ready ≡ true

@@ -5,6 +5,7 @@ use mathlib.Core.List.{List, [], _∷_, _++_}
 use Prim.Native.Nat.{ℕ, _≤_}
 use lib.ListN.{replicate}
 use Rattle.hosts.specs.Hosts.{Desk}
+use Rattle.command.specs.declared.Chip.the-variants.{Wd1793}
 use Rattle.in_time.proofs.Scenes.{fresh}
 use Rattle.witnesses.proofs.Runs.{id-side-0}
 use Rattle.uses.specs.Uses.{Use, throughout, noCommand, headLoaded, passed}
@@ -19,7 +20,7 @@ thirtyFirst = id-side-0 ++ replicate 30 0x00 ++ (0x1FB ∷ []) ++ replicate 2010
 
 -- 80 (Read Sector), accepted at power-on with the drive ready, TR 0 and SR 1, over this track
 pub record ReadOver (track : List ℕ) (c : Accepted) : Type 0 where
-  pub machine : c .machine ≡ fresh false
+  pub machine : c .machine ≡ fresh false Wd1793
   pub command : c .byte ≡ 0x80
   pub row : c .row ≡ track
   pub ready : c .lines .ready ≡ true

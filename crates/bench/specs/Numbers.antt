@@ -2,6 +2,8 @@
 use mathlib.Core.Bool.{Bool, cond}
 use Prim.Native.Nat.{ℕ, _/_, _%_}
 use lib.Dec.{eqb}
+use Rattle.command.specs.declared.Chip.{Chip}
+use Rattle.command.specs.declared.Chip.the-variants.{Wd1793, Wd1797}
 use Rattle.registers.specs.declared.Lines.{Lines}
 use Rattle.registers.specs.declared.Pulse.{Pulse}
 use Rattle.registers.specs.declared.Pulse.the-variants as pulse
@@ -15,6 +17,10 @@ driveLines bits =
       track0 = eqb (bits / 4 % 2) 1;
       hlt = eqb (bits / 8 % 2) 1;
     }
+
+-- "c = 0 the 1793, 1 the 1797"
+abbrev pub chipOf : Bool → Chip
+chipOf wd1797 = cond wd1797 Wd1797 Wd1793
 
 -- "both rows become L cells of 00FF (FM) or 004E (MFM)"
 abbrev pub gapOf : Bool → ℕ

@@ -3,6 +3,7 @@ ghost use mathlib.Core.Path.{_≡_};
 ghost use Rattle.bench.specs.States.{stateOf};
 use crate::output;
 use crate::output::Buffer;
+use command::Chip;
 use registers::Lines;
 use registers::Regs;
 use registers::Wires;
@@ -20,12 +21,14 @@ pub enum Answer {
     Run(u8, Tally),
 }
 
-// The status byte that a read would give, TR, SR and DR, DRQ and INTRQ, and the head's position.
+// The status byte that a read would give, TR, SR and DR, DRQ and INTRQ, the head's position, and the chip with its side output.
 pub struct State {
     pub status: u8,
     pub regs: Regs,
     pub wires: Wires,
     pub position: u16,
+    pub chip: Chip,
+    pub sso: bool,
 }
 
 // The state of a machine under its drive lines. What the read of the status would change is dropped.
@@ -36,17 +39,33 @@ fn state_of(machine: Machine, lines: Lines) -> State
     let regs = machine.regs;
     let wires = machine.wires;
     let ring = machine.ring;
+    let chip = machine.chip;
     State {
         status: read.byte,
         regs,
         wires,
         position: ring.position,
+        chip,
+        sso: machine.sso,
+    }
+}
+
+// The side output, where the chip has one.
+fn put_side(out: &mut Buffer, waiting: u16, chip: Chip, sso: bool) -> u16 {
+    match chip {
+        Chip::Wd1793 => {
+            return waiting;
+        }
+        Chip::Wd1797 => {
+            return output::put_number(out, waiting, 1, sso as u16);
+        }
     }
 }
 
 fn put_state(out: &mut Buffer, waiting: u16, state: State) -> u16 {
     let regs = state.regs;
     let wires = state.wires;
+    let chip = state.chip;
     let bytes = [
         state.status as u16,
         regs.tr as u16,
@@ -58,7 +77,8 @@ fn put_state(out: &mut Buffer, waiting: u16, state: State) -> u16 {
     let bar = output::put(out, space, b'|');
     let first = output::put_numbers(out, bar, 2, 4, bytes);
     let second = output::put_numbers(out, first, 1, 2, flags);
-    output::put_number(out, second, 4, state.position)
+    let third = output::put_number(out, second, 4, state.position);
+    put_side(out, third, chip, state.sso)
 }
 
 fn put_answer(out: &mut Buffer, waiting: u16, answer: Answer) -> u16 {

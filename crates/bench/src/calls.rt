@@ -1,9 +1,10 @@
 // The lines that work the controller, each one call of the library.
 ghost use mathlib.Core.Path.{_≡_};
-ghost use Rattle.bench.specs.Numbers.{driveLines, pulseByte};
+ghost use Rattle.bench.specs.Numbers.{driveLines, chipOf, pulseByte};
 ghost use Rattle.bench.specs.Rows.{Room, RowsFit};
 use crate::answers::Answer;
 use crate::rows::Rows;
+use command::Chip;
 use registers::Lines;
 use registers::Pulse;
 use registers::Ring;
@@ -30,15 +31,25 @@ pub fn lines_of(bits: u8) -> Lines
     }
 }
 
-// Before the first power-on: the FM machine of the shortest row.
+// The chip that a line names.
+fn chip_of(wd1797: bool) -> Chip
+    ensures { λ r. ⌜ r ≡ chipOf wd1797 ⌝ }
+{
+    if wd1797 {
+        return Chip::Wd1797;
+    }
+    Chip::Wd1793
+}
+
+// Before the first power-on: the FM machine of the shortest row, a WD1793.
 pub fn start() -> Machine {
-    let started = Machine::power_on(SHORTEST_ROW as u16, false);
+    let started = Machine::power_on(SHORTEST_ROW as u16, false, Chip::Wd1793);
     started.machine
 }
 
 // Line P.
-fn power_on(mfm: bool, length: u16) -> Answered {
-    let started = Machine::power_on(length, mfm);
+fn power_on(mfm: bool, length: u16, wd1797: bool) -> Answered {
+    let started = Machine::power_on(length, mfm, chip_of(wd1797));
     let machine = started.machine;
     Answered {
         machine,
@@ -146,8 +157,12 @@ pub fn answer(
     requires { ⌜ RowsFit rows × Room (now cells) ⌝ }
 {
     match request {
-        Request::PowerOn { mfm, length } => {
-            return power_on(mfm, length);
+        Request::PowerOn {
+            mfm,
+            length,
+            wd1797,
+        } => {
+            return power_on(mfm, length, wd1797);
         }
         Request::Controller(call) => {
             let at = rows.at;

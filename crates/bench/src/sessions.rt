@@ -77,7 +77,7 @@ pub fn carry_out(
     let rows = session.rows;
     let mut next = session;
     match request {
-        Request::PowerOn { mfm, length } => {
+        Request::PowerOn { mfm, length, .. } => {
             let blank = rows::blank(rows, length as usize, mfm, cells);
             next.rows = blank;
             return next;

@@ -8,7 +8,7 @@ use lib.Dec.{leb}
 use lib.ListN.{getD}
 use borrow.Author.Tests.{leb-true}
 use Rattle.common.proofs.Arms.{count, Gives, range}
-use Rattle.command.specs.Sizes.{largestSize, sizes, sizeOf}
+use Rattle.command.specs.Sizes.{largestSize, sizes, sizeOf, otherSizes, fieldSize}
 use Rattle.command.specs.Times.{settlingMfm, densityOf, stepTimes, stepTimeOf}
 
 pub of-four : (test : ℕ → Bool) (table : List ℕ) → Gives (λ k. test (getD table k 0)) true (count 0 4) → (n : ℕ)
@@ -28,3 +28,18 @@ step-time-most false byte = leb-true _ settlingMfm (of-four (λ n. leb n settlin
 pub size-most : (length : ℕ) → sizeOf length ≤ largestSize
 unfolding sizeOf
 size-most length = leb-true (sizeOf length) largestSize (of-four (λ n. leb n largestSize) sizes refl length)
+
+-- what each of the four sizes passes, every field's size passes, whatever its codes mean
+pub of-sizes : (test : ℕ → Bool) → Gives (λ k. test (getD sizes k 0)) true (count 0 4) → (ibm : Bool) (length : ℕ)
+    → test (fieldSize ibm length) ≡ true
+unfolding fieldSize sizeOf
+of-sizes test each true length = of-four test sizes each length
+of-sizes test each false length =
+    let others : Gives (λ k. test (getD otherSizes k 0)) true (count 0 4) = cc in
+    of-four test otherSizes others length
+
+pub field-size-some : (ibm : Bool) (length : ℕ) → 0 < fieldSize ibm length
+field-size-some ibm length = leb-true 1 (fieldSize ibm length) (of-sizes (leb 1) refl ibm length)
+
+pub field-size-most : (ibm : Bool) (length : ℕ) → fieldSize ibm length ≤ largestSize
+field-size-most ibm length = leb-true (fieldSize ibm length) largestSize (of-sizes (λ n. leb n largestSize) refl ibm length)

@@ -1,10 +1,13 @@
--- What the bits of a command byte ask for: document 01, "Registers and commands". All but the decoding of a byte and its rate
--- code stands here, and nothing else looks at bits. Assumes nothing.
+-- What the bits of a command byte ask for: document 01, "Registers and commands", and document 02, i. All but the decoding of a
+-- byte and its rate code stands here: no other definition that code follows looks at bits. (The demands say the bits anew.) Assumes
+-- nothing.
 use Prim.Native.Nat.{ℕ}
-use mathlib.Core.Bool.{Bool, cond}
+use mathlib.Core.Bool.{Bool, true, false, cond}
 use Rattle.common.specs.Bits.{bitOf}
 use Rattle.scan.specs.declared.DataMark.{DataMark}
 use Rattle.scan.specs.declared.DataMark.the-variants.{Fb, F8}
+use Rattle.command.specs.declared.Chip.{Chip}
+use Rattle.command.specs.declared.Chip.the-variants.{Wd1793, Wd1797}
 use Rattle.command.specs.declared.SideAsked.{SideAsked}
 use Rattle.command.specs.declared.SideAsked.the-variants.{Any, Only}
 
@@ -22,7 +25,8 @@ loadsHead byte = bitOf byte 3
 unfoldable pub verifiesTrack : ℕ → Bool
 verifiesTrack byte = bitOf byte 2
 
--- ---- "Bits of Type II: 4 m, 3 S, 2 E, 1 C, 0 mark." Type III has E alone.
+-- ---- "Bits of Type II: 4 m, 3 S, 2 E, 1 C, 0 mark." Type III has E alone. On the 1797 "bit 3 of Type II becomes L and bit 1
+-- becomes U; bit 1 of Type III commands is U too".
 
 unfoldable pub isMultiple : ℕ → Bool
 isMultiple byte = bitOf byte 4
@@ -31,13 +35,24 @@ isMultiple byte = bitOf byte 4
 unfoldable pub settlesFirst : ℕ → Bool
 settlesFirst byte = bitOf byte 2
 
--- S as a side
-unfoldable pub sideOf : ℕ → ℕ
-sideOf byte = cond (bitOf byte 3) 1 0
+-- U, of Types II and III: what goes to the side output; the 1793 has none, and its output stays off
+unfoldable pub selectsSide : Chip → ℕ → Bool
+selectsSide Wd1793 byte = false
+selectsSide Wd1797 byte = bitOf byte 1
 
--- "C asks that the ID's side equal S."
-unfoldable pub sideAsked : ℕ → SideAsked
-sideAsked byte = cond (bitOf byte 1) (Only (sideOf byte)) Any
+-- S or U as a side
+unfoldable pub sideOf : Bool → ℕ
+sideOf flag = cond flag 1 0
+
+-- "On the 1793 C asks that the ID's side equal S."; on the 1797 "for Type II the ID's side must equal U"
+unfoldable pub sideAsked : Chip → ℕ → SideAsked
+sideAsked Wd1793 byte = cond (bitOf byte 1) (Only (sideOf (bitOf byte 3))) Any
+sideAsked Wd1797 byte = Only (sideOf (bitOf byte 1))
+
+-- "With L 1 the length codes are as before", which are IBM's (000: "For IBM compatibility, the 'b' flag should be set to a one")
+unfoldable pub ibmLengths : Chip → ℕ → Bool
+ibmLengths Wd1793 byte = true
+ibmLengths Wd1797 byte = bitOf byte 3
 
 -- "Data marks are FB (normal) and F8 (deleted).": the one that Write Sector writes
 unfoldable pub markWritten : ℕ → DataMark

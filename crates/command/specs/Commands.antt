@@ -1,8 +1,10 @@
--- Which command a byte is, and how it is taken up: document 01, "Registers and commands".
+-- Which command a byte is, and how it is taken up: document 01, "Registers and commands", and document 02, i.
 -- Assumes nothing.
 use Prim.Native.Nat.{ℕ, _%_}
 use mathlib.Core.Bool.{Bool, true, false, cond, _&&_, _||_}
 use lib.Dec.{leb, eqb}
+use Rattle.command.specs.declared.Chip.{Chip}
+use Rattle.command.specs.declared.Chip.the-variants.{Wd1793, Wd1797}
 use Rattle.command.specs.declared.Command.{Command}
 use Rattle.command.specs.declared.Command.the-variants.{Restore, Seek, Step, StepIn, StepOut, ReadSector, WriteSector, ReadAddress, ReadTrack, WriteTrack, ForceInterrupt}
 use Rattle.command.specs.declared.Decoded.{Decoded}
@@ -16,10 +18,10 @@ use Rattle.command.specs.declared.Job.the-variants as job
 abbrev pub within : ℕ → ℕ → ℕ → Bool
 within first last byte = leb first byte && leb byte last
 
--- 00-0F Restore, 10-1F Seek, 20-3F Step, 40-5F Step-in, 60-7F Step-out, all Type I; even 80-9E Read Sector; A0-BF Write
--- Sector; C0, C4 Read Address; E0, E4 Read Track; F0, F4 Write Track; D0-DF Force Interrupt. The other bytes are refused.
-unfoldable pub decodedOf : ℕ → Decoded
-decodedOf byte =
+-- What both chips take: 00-0F Restore, 10-1F Seek, 20-3F Step, 40-5F Step-in, 60-7F Step-out, all Type I; even 80-9E Read Sector;
+-- A0-BF Write Sector; C0, C4 Read Address; E0, E4 Read Track; F0, F4 Write Track; D0-DF Force Interrupt.
+unfoldable pub decodedByBoth : ℕ → Decoded
+decodedByBoth byte =
     cond (within 0x00 0x0F byte) (Taken Restore)
     (cond (within 0x10 0x1F byte) (Taken Seek)
     (cond (within 0x20 0x3F byte) (Taken Step)
@@ -32,6 +34,25 @@ decodedOf byte =
     (cond (eqb byte 0xF0 || eqb byte 0xF4) (Taken WriteTrack)
     (cond (within 0xD0 0xDF byte) (Taken ForceInterrupt)
     NoCommand))))))))))
+
+-- The other bytes are refused, but on the 1797 "bit 1 of Type III commands is U too, so C2, C6, E2, E6, F2, F6 become commands for
+-- this chip only".
+unfoldable pub decodedWithU : Chip → ℕ → Decoded
+decodedWithU Wd1793 byte = NoCommand
+decodedWithU Wd1797 byte =
+    cond (eqb byte 0xC2 || eqb byte 0xC6) (Taken ReadAddress)
+    (cond (eqb byte 0xE2 || eqb byte 0xE6) (Taken ReadTrack)
+    (cond (eqb byte 0xF2 || eqb byte 0xF6) (Taken WriteTrack)
+    NoCommand))
+
+-- what is taken, or else the other
+abbrev pub takenOr : Decoded → Decoded → Decoded
+takenOr other (Taken command) = Taken command
+takenOr other NoCommand = other
+
+-- what a byte is on a chip
+unfoldable pub decodedOf : Chip → ℕ → Decoded
+decodedOf chip byte = takenOr (decodedWithU chip byte) (decodedByBoth byte)
 
 -- 7 is given exactly when the byte is no command.
 abbrev pub decodeRefusal : Decoded → ℕ

@@ -1,9 +1,12 @@
--- The order that an accepted command leaves for the byte times. Assumes nothing.
+-- The order that an accepted command leaves for the byte times. What differs between the chips is settled in it: search and transfer
+-- do not ask which chip it is. Assumes nothing.
 use Prim.Native.Nat.{ℕ}
 use mathlib.Core.Bool.{Bool, true, false}
 use Rattle.command.specs.declared.Command.{Command}
 use Rattle.command.specs.declared.Command.the-variants.{Restore, Seek, Step, StepIn, StepOut, ReadSector, WriteSector, ReadAddress, ReadTrack, WriteTrack, ForceInterrupt}
 use Rattle.command.specs.declared.Order.{Order}
+use Rattle.command.specs.declared.Chip.{Chip}
+use Rattle.command.specs.Bits.{sideAsked, ibmLengths}
 
 -- The direction of the one step: Step-in goes in, Step-out goes out, Step as the last step did. The other commands make no
 -- such step; a Seek's direction is found as it steps.
@@ -20,6 +23,14 @@ inwardOf ReadTrack last = last
 inwardOf WriteTrack last = last
 inwardOf ForceInterrupt last = last
 
--- The command under way is the command, its byte and the direction of its step.
-unfoldable pub orderOf : Command → ℕ → Bool → Order
-orderOf command byte last = record { command = command; byte = byte; inward = inwardOf command last }
+-- The command under way is the command, its byte and the direction of its step; and what Type II asks of an ID, where the other
+-- commands do not look: its side, and what its length codes mean.
+unfoldable pub orderOf : Chip → Command → ℕ → Bool → Order
+orderOf chip command byte last =
+    record {
+      command = command;
+      byte = byte;
+      inward = inwardOf command last;
+      side = sideAsked chip byte;
+      ibm = ibmLengths chip byte;
+    }

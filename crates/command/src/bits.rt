@@ -1,7 +1,8 @@
 // What the bits of a command byte ask for: all but its decoding and its rate code. Nobody else looks at them.
 ghost use mathlib.Core.Path.{_≡_};
 ghost use Rattle.common.specs.Bits.{bitOf};
-ghost use Rattle.command.specs.Bits.{updatesTrack, loadsHead, verifiesTrack, isMultiple, settlesFirst, sideOf, sideAsked, markWritten, forcesAtOnce, forcesAtIndex, forcesAtNotReady, forcesAtReady};
+ghost use Rattle.command.specs.Bits.{updatesTrack, loadsHead, verifiesTrack, isMultiple, settlesFirst, selectsSide, sideOf, sideAsked, ibmLengths, markWritten, forcesAtOnce, forcesAtIndex, forcesAtNotReady, forcesAtReady};
+use crate::Chip;
 use crate::SideAsked;
 use scan::DataMark;
 
@@ -12,7 +13,7 @@ const HEAD: u8 = 3;
 
 const VERIFY: u8 = 2;
 
-// Type II: m, S, E, C and the data mark; Type III has E alone.
+// Type II on the WD1793: m, S, E, C and the data mark; Type III has E alone.
 const MULTIPLE: u8 = 4;
 
 const SIDE: u8 = 3;
@@ -22,6 +23,11 @@ const SETTLE: u8 = 2;
 const COMPARE: u8 = 1;
 
 const MARK: u8 = 0;
+
+// On the WD1797 Type II has L in the place of S and U in that of C, and Type III has U too.
+const LENGTHS: u8 = 3;
+
+const SELECT: u8 = 1;
 
 // Force Interrupt: I3 to I0.
 const AT_ONCE: u8 = 3;
@@ -78,20 +84,46 @@ pub fn settles_first(byte: u8) -> bool
     bit(byte, SETTLE)
 }
 
-fn side_of(byte: u8) -> u8
-    ensures { λ r. ⌜ r ≡ sideOf byte ⌝ }
+// What Types II and III put on the side output: on the WD1797 U. The WD1793 has no such output, and its flag stays off.
+pub fn selects_side(chip: Chip, byte: u8) -> bool
+    ensures { λ r. ⌜ r ≡ selectsSide chip byte ⌝ }
 {
-    if bit(byte, SIDE) { 1 } else { 0 }
+    match chip {
+        Chip::Wd1793 => false,
+        Chip::Wd1797 => bit(byte, SELECT),
+    }
 }
 
-// Type II: the side that an ID must have: any, or with C the one that S names.
-pub fn side_asked(byte: u8) -> SideAsked
-    ensures { λ r. ⌜ r ≡ sideAsked byte ⌝ }
+// A side by its flag.
+fn side_of(flag: bool) -> u8
+    ensures { λ r. ⌜ r ≡ sideOf flag ⌝ }
 {
-    if bit(byte, COMPARE) {
-        SideAsked::Only(side_of(byte))
-    } else {
-        SideAsked::Any
+    if flag { 1 } else { 0 }
+}
+
+// Type II: the side that an ID must have: on the WD1793 any, or with C the one that S names; on the WD1797 the one that U names.
+pub fn side_asked(chip: Chip, byte: u8) -> SideAsked
+    ensures { λ r. ⌜ r ≡ sideAsked chip byte ⌝ }
+{
+    match chip {
+        Chip::Wd1793 => {
+            if bit(byte, COMPARE) {
+                SideAsked::Only(side_of(bit(byte, SIDE)))
+            } else {
+                SideAsked::Any
+            }
+        }
+        Chip::Wd1797 => SideAsked::Only(side_of(bit(byte, SELECT))),
+    }
+}
+
+// Type II: the length codes of an ID are IBM's: on the WD1793 always, on the WD1797 with L.
+pub fn ibm_lengths(chip: Chip, byte: u8) -> bool
+    ensures { λ r. ⌜ r ≡ ibmLengths chip byte ⌝ }
+{
+    match chip {
+        Chip::Wd1793 => true,
+        Chip::Wd1797 => bit(byte, LENGTHS),
     }
 }
 

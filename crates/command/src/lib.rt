@@ -1,11 +1,18 @@
-// Command bytes of the WD1793: the command that a byte is, and the order that it leaves for the byte times.
+// Command bytes of the WD1793 and the WD1797: the command that a byte is, and the order that it leaves for the byte times. What
+// differs between the chips is settled here.
 ghost use mathlib.Core.Path.{_≡_};
-ghost use Rattle.command.specs.Commands.{decodedOf, classOf, jobOf, isRestore};
+ghost use Rattle.command.specs.Commands.{decodedByBoth, decodedWithU, decodedOf, classOf, jobOf, isRestore};
 ghost use Rattle.command.specs.Orders.{inwardOf, orderOf};
 
 pub mod bits;
 pub mod sizes;
 pub mod times;
+
+// The chip whose part the controller plays. The WD1797 has a side output.
+pub enum Chip {
+    Wd1793,
+    Wd1797,
+}
 
 // The commands, by the data sheet's names.
 pub enum Command {
@@ -54,16 +61,35 @@ pub enum SideAsked {
     Only(u8),
 }
 
-// The command under way, its byte, whose bits `bits` reads, and the direction of its one step.
+// The command under way, its byte, whose bits `bits` reads, and the direction of its one step; and for Type II the side that an ID
+// must have, and whether its length codes are IBM's. These two are the chip's reading of the byte, so that who has the order need
+// not ask which chip it is.
 pub struct Order {
     pub command: Command,
     pub byte: u8,
     pub inward: bool,
+    pub side: SideAsked,
+    pub ibm: bool,
 }
 
-// The command that a byte is. Read Sector has no data mark to choose, so its bit 0 must be off.
-pub fn decode(byte: u8) -> Decoded
-    ensures { λ r. ⌜ r ≡ decodedOf byte ⌝ }
+// The commands of Type III with the flag U, which the WD1797 alone takes.
+fn decode_with_u(chip: Chip, byte: u8) -> Decoded
+    ensures { λ r. ⌜ r ≡ decodedWithU chip byte ⌝ }
+{
+    match chip {
+        Chip::Wd1793 => Decoded::NoCommand,
+        Chip::Wd1797 => match byte {
+            0xC2 | 0xC6 => Decoded::Taken(Command::ReadAddress),
+            0xE2 | 0xE6 => Decoded::Taken(Command::ReadTrack),
+            0xF2 | 0xF6 => Decoded::Taken(Command::WriteTrack),
+            _ => Decoded::NoCommand,
+        },
+    }
+}
+
+// The commands that both chips take. Read Sector has no data mark to choose, so its bit 0 must be off.
+fn decode_by_both(byte: u8) -> Decoded
+    ensures { λ r. ⌜ r ≡ decodedByBoth byte ⌝ }
 {
     match byte {
         0x00..=0x0F => Decoded::Taken(Command::Restore),
@@ -84,6 +110,17 @@ pub fn decode(byte: u8) -> Decoded
         0xF0 | 0xF4 => Decoded::Taken(Command::WriteTrack),
         0xD0..=0xDF => Decoded::Taken(Command::ForceInterrupt),
         _ => Decoded::NoCommand,
+    }
+}
+
+// The command that a byte is on a chip.
+pub fn decode(chip: Chip, byte: u8) -> Decoded
+    ensures { λ r. ⌜ r ≡ decodedOf chip byte ⌝ }
+{
+    let decoded = decode_by_both(byte);
+    match decoded {
+        Decoded::Taken(command) => Decoded::Taken(command),
+        Decoded::NoCommand => decode_with_u(chip, byte),
     }
 }
 
@@ -137,13 +174,15 @@ fn inward(command: Command, last: bool) -> bool
     }
 }
 
-// The order that a command and its byte give, from the direction of the last step.
-pub fn order_of(command: Command, byte: u8, last: bool) -> Order
-    ensures { λ r. ⌜ r ≡ orderOf command byte last ⌝ }
+// The order that a command and its byte give on a chip, from the direction of the last step.
+pub fn order_of(chip: Chip, command: Command, byte: u8, last: bool) -> Order
+    ensures { λ r. ⌜ r ≡ orderOf chip command byte last ⌝ }
 {
     Order {
         command,
         byte,
         inward: inward(command, last),
+        side: bits::side_asked(chip, byte),
+        ibm: bits::ibm_lengths(chip, byte),
     }
 }

@@ -71,7 +71,7 @@ module _ (s0 s1 : List ℕ) (p0 : ℕ × ℕ) (mfm : Bool) (track sector : ℕ) 
 pub demand-1 : Demand1
 demand-1 =
     record {
-      power-on = λ size mfm r call. subst (SafePowerOn size) (sym (call .told)) (power-on-safe size mfm);
+      power-on = λ size mfm chip r call. subst (SafePowerOn size chip) (sym (call .told)) (power-on-safe size mfm chip);
       load = λ m l number b r call. subst (SafeLoad m l number b) (sym (call .told)) (load-safe m l number b);
       read = λ m l number r call. subst (SafeRead m number) (sym (call .told)) (read-safe m l number);
       byte-time = byte-time-called;

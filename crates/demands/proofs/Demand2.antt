@@ -8,7 +8,9 @@ use Rattle.common.specs.Bits.{bitOf}
 use Rattle.scan.specs.Rows.{lengthWithin}
 use Rattle.scan.specs.DataMarks.{isDeleted}
 use Rattle.scan.specs.declared.DataMark.the-variants.{Fb, F8}
-use Rattle.command.specs.Bits.{isMultiple, settlesFirst, sideOf, sideAsked, markWritten}
+use Rattle.command.specs.declared.Chip.{Chip}
+use Rattle.command.specs.declared.Chip.the-variants.{Wd1793, Wd1797}
+use Rattle.command.specs.Bits.{isMultiple, settlesFirst, sideOf, sideAsked, ibmLengths, markWritten}
 use Rattle.command.specs.Commands.{classOf, decodedOf}
 use Rattle.command.specs.declared.Command.the-variants.{ReadSector, WriteSector}
 use Rattle.command.specs.declared.Decoded.the-variants.{Taken}
@@ -23,7 +25,9 @@ use Rattle.reachable.proofs.StatusBits.{status-four, status-crc, status-protect
 use Rattle.hosts.specs.Hosts.{Desk, EndsAt}
 use Rattle.hosts.proofs.Accepted.{given-flags}
 use Rattle.hosts.proofs.ByteTimes.{kind-later}
-use Rattle.exact.specs.Demand2.{Session, writeScene, begun, wrote, got, NoError, Commands, ReadBackPremises, ReadsBack}
+use Rattle.exact.specs.Demand2.{Session, writeScene, begun, wrote, asked, got, NoError, Commands, ReadBackPremises, ReadsBack}
+use Rattle.reachable.proofs.Sides.{side-output}
+use Rattle.exact.proofs.NextCommand.{asked-fixed}
 use Rattle.exact.proofs.Demand2 as exact
 use Rattle.served.specs.Served.{givenIn, returnedIn, loadsDr, readsDr, ServesEach, WriterServes, BytesSeen}
 use Rattle.served.proofs.WriterBytes.{given-taken}
@@ -49,15 +53,26 @@ mark-bit b = by (bitOf b 0)
     by true = refl
     by false = refl
 
+-- two bytes with the same flags ask a chip for the same side and the same length codes
+same-sides : (chip : Chip) (b b′ : ℕ) → bitOf b′ 1 ≡ bitOf b 1 → bitOf b′ 3 ≡ bitOf b 3 → sideAsked chip b′ ≡ sideAsked chip b
+unfolding sideAsked sideOf
+same-sides Wd1793 b b′ one three = λ i. cond (one i) (Only (cond (three i) 1 0)) Any
+same-sides Wd1797 b b′ one three = λ i. Only (cond (one i) 1 0)
+
+same-lengths : (chip : Chip) (b b′ : ℕ) → bitOf b′ 3 ≡ bitOf b 3 → ibmLengths chip b′ ≡ ibmLengths chip b
+unfolding ibmLengths
+same-lengths Wd1793 b b′ three = refl
+same-lengths Wd1797 b b′ three = three
+
 module _ (t : WriteThenRead) (p : ℕ) (a : ReadBackAsked t p) where
   abbrev s : Session
   s = sessionOf t
 
-  is-write : decodedOf (t .write .byte) ≡ Taken WriteSector
-  is-write = decodes-write (t .write .byte) (a .writes)
+  is-write : decodedOf (t .write .machine .chip) (t .write .byte) ≡ Taken WriteSector
+  is-write = decodes-write (t .write .machine .chip) (t .write .byte) (a .writes)
 
-  is-read : decodedOf (t .read .byte) ≡ Taken ReadSector
-  is-read = decodes-read (t .read .byte) (a .reads)
+  is-read : decodedOf (t .read .machine .chip) (t .read .byte) ≡ Taken ReadSector
+  is-read = decodes-read (t .read .machine .chip) (t .read .byte) (a .reads)
 
   ends : EndsAt (s .writer) (begun s) (s .written)
   ends = write-ends t WriteSector is-write (λ e. never (cc))
@@ -88,8 +103,12 @@ module _ (t : WriteThenRead) (p : ℕ) (a : ReadBackAsked t p) where
 
   -- ---- the two commands
 
+  -- the chip is the same
+  same-chip : asked s .machine .chip ≡ t .write .machine .chip
+  same-chip = asked-fixed s .chip
+
   commands : Commands s
-  unfolding isMultiple settlesFirst sideAsked sideOf
+  unfolding isMultiple settlesFirst
   commands =
       record {
         dr = a .dr;
@@ -100,15 +119,17 @@ module _ (t : WriteThenRead) (p : ℕ) (a : ReadBackAsked t p) where
         ends = ends;
         fine = no-error;
         next = writer-alone t (suc (s .waited));
-        reads = is-read;
+        reads = ap (λ (d : Desk). decodedOf (d .machine .chip) (t .read .byte)) (asked-is t) ∙ is-read;
         same-tr = ap (λ (d : Desk). d .machine .regs .tr) (asked-is t) ∙ a .same-tr;
         same-sr = ap (λ (d : Desk). d .machine .regs .sr) (asked-is t) ∙ a .same-sr;
         same-m = a .same-flags 4 (omega arith) (omega arith);
         same-e = a .same-flags 2 (omega arith) (omega arith);
-        same-side = λ i.
-            cond (a .same-flags 1 (omega arith) (omega arith) i)
-            (Only (cond (a .same-flags 3 (omega arith) (omega arith) i) 1 0))
-            Any;
+        same-side =
+            ap (λ (chip : Chip). sideAsked chip (t .read .byte)) same-chip
+            ∙ same-sides _ _ _ (a .same-flags 1 (omega arith) (omega arith)) (a .same-flags 3 (omega arith) (omega arith));
+        same-lengths =
+            ap (λ (chip : Chip). ibmLengths chip (t .read .byte)) same-chip
+            ∙ same-lengths _ _ _ (a .same-flags 3 (omega arith) (omega arith));
         accepted-then =
             ap (λ (d : Desk). loadRegister (d .machine) (t .read .lines) 0 (t .read .byte) .number) (asked-is t) ∙ taken (t .read);
         ready-then = a .ready-then;
@@ -189,7 +210,7 @@ module _ (t : WriteThenRead) (p : ℕ) (a : ReadBackAsked t p) where
   reads =
       record {
         same = read-back;
-        many = read-back .many ∙ length-bytes _;
+        many = read-back .many ∙ length-bytes _ _ _;
         good = found-good;
         seen = same-bytes;
         all-seen = all-bytes;
@@ -197,15 +218,18 @@ module _ (t : WriteThenRead) (p : ℕ) (a : ReadBackAsked t p) where
       }
 
 -- what a power-on that is done gives
-powered-on : (size : ℕ) (mfm : Bool) (r : Started) → PowerOnCall size mfm r → r .number ≡ 0 → PoweredOn size mfm (r .machine)
+powered-on : (size : ℕ) (mfm : Bool) (chip : Chip) (r : Started)
+    → PowerOnCall size mfm chip r → r .number ≡ 0 → PoweredOn size mfm chip (r .machine)
 unfolding powerOn freshMachine
-powered-on size mfm r call done =
-    subst (λ (q : Started). q .number ≡ 0 → PoweredOn size mfm (q .machine)) (sym (call .told))
-    (by-cond (λ (q : Started). q .number ≡ 0 → PoweredOn size mfm (q .machine)) (lengthWithin size)
+powered-on size mfm chip r call done =
+    subst (λ (q : Started). q .number ≡ 0 → PoweredOn size mfm chip (q .machine)) (sym (call .told))
+    (by-cond (λ (q : Started). q .number ≡ 0 → PoweredOn size mfm chip (q .machine)) (lengthWithin size)
     (λ fits e.
     record {
       ring = refl;
       density = refl;
+      chip-named = refl;
+      side-output = refl;
       regs = refl;
       head = refl;
       idle = refl;
@@ -221,6 +245,7 @@ pub demand-2 : Demand2
 demand-2 =
     record {
       starts = powered-on;
+      side-output = side-output;
       exactly = λ d e u. (use-defined u, use-answered u);
       every-use = λ d e u. every-use u;
       reads-back = reads;

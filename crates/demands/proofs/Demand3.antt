@@ -95,7 +95,7 @@ module _ (c : Accepted) (asked : ReadAsked c) (h : Host) (quiet : Quiet h (since
   unfolding isMultiple
   premises =
       record {
-        reads = decodes-read (c .byte) (asked .single);
+        reads = decodes-read (c .machine .chip) (c .byte) (asked .single);
         single = asked .single .single;
         accepted = taken c;
         ready = asked .ready;
@@ -248,7 +248,7 @@ module _ (c : Accepted) (asked : ReadAsked c) where
     is-time : time c asked as-host quiet lit-through ≡ took course
     is-time =
         ends-once as-host (since c) _ _ (over c asked as-host quiet lit-through)
-        (ends-there c ReadSector (decodes-read (c .byte) (asked .single)) (λ e. never (cc)) course silent
+        (ends-there c ReadSector (decodes-read (c .machine .chip) (c .byte) (asked .single)) (λ e. never (cc)) course silent
         (silent-quiet (course .after)))
 
     ends-so : ReadEnds c course
@@ -265,7 +265,7 @@ module _ (c : Accepted) (asked : ReadAsked c) where
         after =
             ap (λ (d : Desk). at as-host d (time c asked as-host quiet lit-through)) (sym (since-loaded c as-host))
             ∙ ap (at as-host (since c)) is-time
-            ∙ at-end c ReadSector (decodes-read (c .byte) (asked .single)) (λ e. never (cc)) course silent
+            ∙ at-end c ReadSector (decodes-read (c .machine .chip) (c .byte) (asked .single)) (λ e. never (cc)) course silent
             (silent-quiet (course .after))
 
         exactly : (l : Lines) (r : Read)

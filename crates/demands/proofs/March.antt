@@ -5,7 +5,8 @@ use mathlib.Core.Logic.{_⊎_, inl, inr, _↔_}
 use Prim.Native.Nat.{ℕ, _<_}
 use native.Mathlib.Nat.{add-zero}
 use Rattle.common.specs.Bits.{bitOf}
-use Rattle.command.specs.Commands.{classOf, decodedOf}
+use Rattle.command.specs.declared.Chip.{Chip}
+use Rattle.command.specs.Commands.{classOf, decodedByBoth, decodedWithU, decodedOf}
 use Rattle.command.specs.declared.Command.{Command}
 use Rattle.command.specs.declared.Command.the-variants.{ReadSector, WriteSector, ReadAddress, ReadTrack, WriteTrack}
 use Rattle.command.specs.declared.Class.the-variants.{Works}
@@ -38,7 +39,7 @@ use Rattle.uses.proofs.Sessions.{silent-quiet}
 use Rattle.uses.proofs.Decoding.{reads-sector, writes-sector}
 use Rattle.demands.specs.Demands.{LostExactly, March}
 
-module _ (c : Accepted) (command : Command) (is : decodedOf (c .byte) ≡ Taken command) (works : classOf command ≡ Works)
+module _ (c : Accepted) (command : Command) (is : decodedOf (c .machine .chip) (c .byte) ≡ Taken command) (works : classOf command ≡ Works)
     {e : Desk} (u : Use (since c) e) (alone : throughout noCommand u ≡ true) where
   abbrev host : Host
   host = hostOf u silent
@@ -136,48 +137,54 @@ write-works write-sector = refl
 write-works write-track = refl
 
 -- a byte is one of them by document 01's list
-read-bytes : (b : ℕ) → ReadByte b → (command : Command) × (decodedOf b ≡ Taken command) × ReadCommand command
-unfolding decodedOf
-read-bytes b (courses.read-sector first last even) = (ReadSector, reads-sector b first last even, read-sector)
-read-bytes b (courses.read-address (inl e)) = (ReadAddress, ap decodedOf e, read-address)
-read-bytes b (courses.read-address (inr e)) = (ReadAddress, ap decodedOf e, read-address)
-read-bytes b (courses.read-track (inl e)) = (ReadTrack, ap decodedOf e, read-track)
-read-bytes b (courses.read-track (inr e)) = (ReadTrack, ap decodedOf e, read-track)
+read-bytes : (chip : Chip) (b : ℕ) → ReadByte chip b → (command : Command) × (decodedOf chip b ≡ Taken command) × ReadCommand command
+unfolding decodedOf decodedByBoth decodedWithU
+read-bytes chip b (courses.read-sector first last even) = (ReadSector, reads-sector chip b first last even, read-sector)
+read-bytes chip b (courses.read-address (inl e)) = (ReadAddress, ap (decodedOf chip) e, read-address)
+read-bytes chip b (courses.read-address (inr e)) = (ReadAddress, ap (decodedOf chip) e, read-address)
+read-bytes chip b (courses.read-track (inl e)) = (ReadTrack, ap (decodedOf chip) e, read-track)
+read-bytes chip b (courses.read-track (inr e)) = (ReadTrack, ap (decodedOf chip) e, read-track)
+read-bytes chip b (courses.read-address-with-u is (inl e)) = (ReadAddress, (λ i. decodedOf (is i) (e i)), read-address)
+read-bytes chip b (courses.read-address-with-u is (inr e)) = (ReadAddress, (λ i. decodedOf (is i) (e i)), read-address)
+read-bytes chip b (courses.read-track-with-u is (inl e)) = (ReadTrack, (λ i. decodedOf (is i) (e i)), read-track)
+read-bytes chip b (courses.read-track-with-u is (inr e)) = (ReadTrack, (λ i. decodedOf (is i) (e i)), read-track)
 
-write-bytes : (b : ℕ) → WriteByte b → (command : Command) × (decodedOf b ≡ Taken command) × WriteCommand command
-unfolding decodedOf
-write-bytes b (courses.write-sector first last) = (WriteSector, writes-sector b first last, write-sector)
-write-bytes b (courses.write-track (inl e)) = (WriteTrack, ap decodedOf e, write-track)
-write-bytes b (courses.write-track (inr e)) = (WriteTrack, ap decodedOf e, write-track)
+write-bytes : (chip : Chip) (b : ℕ) → WriteByte chip b → (command : Command) × (decodedOf chip b ≡ Taken command) × WriteCommand command
+unfolding decodedOf decodedByBoth decodedWithU
+write-bytes chip b (courses.write-sector first last) = (WriteSector, writes-sector chip b first last, write-sector)
+write-bytes chip b (courses.write-track (inl e)) = (WriteTrack, ap (decodedOf chip) e, write-track)
+write-bytes chip b (courses.write-track (inr e)) = (WriteTrack, ap (decodedOf chip) e, write-track)
+write-bytes chip b (courses.write-track-with-u is (inl e)) = (WriteTrack, (λ i. decodedOf (is i) (e i)), write-track)
+write-bytes chip b (courses.write-track-with-u is (inr e)) = (WriteTrack, (λ i. decodedOf (is i) (e i)), write-track)
 
 read-exactly : (c : Accepted) (e : Desk) (u : Use (since c) e)
-    → ReadByte (c .byte)
+    → ReadByte (c .machine .chip) (c .byte)
     → LostExactly c u (ByteLost (hostOf u silent) (since c))
 read-exactly c e u byte alone =
-    let (command, is, reads) = read-bytes (c .byte) byte in
+    let (command, is, reads) = read-bytes (c .machine .chip) (c .byte) byte in
     exactly c command is (read-works reads) u alone (λ d k. ByteLost (hostOf u silent) d k)
     (lost-in-a-read reads (taken-alone c command is (read-works reads) u alone))
 
 write-exactly : (c : Accepted) (e : Desk) (u : Use (since c) e)
-    → WriteByte (c .byte)
+    → WriteByte (c .machine .chip) (c .byte)
     → LostExactly c u (λ k. ZeroWritten (hostOf u silent) (since c) k ⊎ Terminated (hostOf u silent) (since c) k)
 write-exactly c e u byte alone =
-    let (command, is, writes) = write-bytes (c .byte) byte in
+    let (command, is, writes) = write-bytes (c .machine .chip) (c .byte) byte in
     exactly c command is (write-works writes) u alone
     (λ d k. ZeroWritten (hostOf u silent) d k ⊎ Terminated (hostOf u silent) d k)
     (lost-in-a-write writes (taken-alone c command is (write-works writes) u alone))
 
 never : (c : Accepted) (e : Desk) (u : Use (since c) e) (k : ℕ)
-    → ReadByte (c .byte) ⊎ WriteByte (c .byte)
+    → ReadByte (c .machine .chip) (c .byte) ⊎ WriteByte (c .machine .chip) (c .byte)
     → throughout noCommand u ≡ true
     → k < passed u
     → PutOver (hostOf u silent) (since c) k
     → Shows e lostDataBit true
 never c e u k (inl byte) alone =
-    let (command, is, reads) = read-bytes (c .byte) byte in
+    let (command, is, reads) = read-bytes (c .machine .chip) (c .byte) byte in
     silently c command is (read-works reads) u alone k
 never c e u k (inr byte) alone =
-    let (command, is, writes) = write-bytes (c .byte) byte in
+    let (command, is, writes) = write-bytes (c .machine .chip) (c .byte) byte in
     silently c command is (write-works writes) u alone k
 
 -- the accident of March

@@ -7,8 +7,7 @@ use mathlib.Core.Logic.{_⊎_, _↔_}
 use Prim.Native.Nat.{ℕ, suc, _+_, _*_, _≤_, _<_}
 use lib.ListN.{length, getD}
 use Rattle.common.specs.Bits.{bitOf}
-use Rattle.scan.specs.Streams.{idFrom}
-use Rattle.fields.specs.Rings.{cellsOf}
+use Rattle.command.specs.declared.Chip.{Chip}
 use Rattle.registers.specs.declared.Lines.{Lines}
 use Rattle.picture.specs.declared.Answer.{Answer}
 use Rattle.wd.specs.declared.Machine.{Machine}
@@ -17,6 +16,7 @@ use Rattle.wd.specs.declared.Loaded.{Loaded}
 use Rattle.wd.specs.declared.Read.{Read}
 use Rattle.wd.specs.declared.Passed.{Passed}
 use Rattle.wd.specs.declared.Ran.{Ran}
+use Rattle.reachable.specs.Sides.{SideOutput}
 use Rattle.safe.specs.Demand1.{SafePowerOn, SafeLoad, SafeRead, SafeByteTime, SafeRun}
 use Rattle.safe.specs.Pictures.{SafePicture}
 use Rattle.safe.specs.Viewer.{SafeView}
@@ -29,12 +29,12 @@ use Rattle.lost_data.specs.LostData.{ByteLost, ZeroWritten, Terminated, PutOver
 use Rattle.uses.specs.Contracts.{PowerOnCall, PoweredOn, LoadCall, ReadCall, ByteTimeCall, RunCall, PictureCall, ViewCall, NumberCall}
 use Rattle.uses.specs.Uses.{Use, documented, Answered, throughout, noCommand, headLoaded, passed, hostOf, IsHost}
 use Rattle.uses.specs.Courses.{notFoundBit, lostDataBit, Shows, Showed, NoErrorBit, FoundGood, Ending, Accepted, since, Course, took, silent, trackOf, SingleRead, SingleWrite, ReadByte, WriteByte}
-use Rattle.uses.specs.Sessions.{WriteThenRead, sessionOf, bytesTaken, bytesLoaded, bytesRead, Serves}
+use Rattle.uses.specs.Sessions.{WriteThenRead, sessionOf, bytesTaken, lengthCode, bytesLoaded, bytesRead, Serves}
 
 -- ---- 1. "Safe on every input: any register byte, track, drive line or machine state. A bad one gets a refusal by number, hands
 -- back the machine as it came and changes no cell of a lent track in that byte time."
 pub record Demand1 : Type 0 where
-  pub power-on : (size : ℕ) (mfm : Bool) (r : Started) → PowerOnCall size mfm r → SafePowerOn size r
+  pub power-on : (size : ℕ) (mfm : Bool) (chip : Chip) (r : Started) → PowerOnCall size mfm chip r → SafePowerOn size chip r
   pub load : (m : Machine) (l : Lines) (number b : ℕ) (r : Loaded) → LoadCall m l number b r → SafeLoad m l number b r
   pub read : (m : Machine) (l : Lines) (number : ℕ) (r : Read) → ReadCall m l number r → SafeRead m number r
   pub byte-time :
@@ -74,7 +74,7 @@ pub record ReadBackAsked (t : WriteThenRead) (p : ℕ) : Type 0 where
 pub record ReadBack (t : WriteThenRead) (p : ℕ) : Type 0 where
   -- byte for byte, each in its own byte time and over its own cell, whatever the host does; 128, 256, 512 or 1,024 of them
   pub same : ReadsBack (sessionOf t) p
-  pub many : length (bytesTaken t) ≡ fieldBytes (idFrom (t .write .machine .mfm) (cellsOf (t .write .row)) p .length)
+  pub many : length (bytesTaken t) ≡ fieldBytes (t .write .machine .chip) (t .write .byte) (lengthCode t p)
   pub good : FoundGood (t .reading .after) (bitOf (t .write .byte) 0)
   -- for a host that serves each DRQ before the next byte time, the bytes given to `load_register(3)` are the bytes returned by
   -- `read_register(3)`, in order, with DRQ on before each and no Lost Data
@@ -83,7 +83,9 @@ pub record ReadBack (t : WriteThenRead) (p : ℕ) : Type 0 where
   pub none-lost : Serves t → Shows (t .reading .after) lostDataBit false
 
 pub record Demand2 : Type 0 where
-  pub starts : (size : ℕ) (mfm : Bool) (r : Started) → PowerOnCall size mfm r → r .number ≡ 0 → PoweredOn size mfm (r .machine)
+  pub starts : (size : ℕ) (mfm : Bool) (chip : Chip) (r : Started)
+      → PowerOnCall size mfm chip r → r .number ≡ 0 → PoweredOn size mfm chip (r .machine)
+  pub side-output : (m : Machine) → SideOutput m  -- "U goes to the side output at acceptance"; a 1793 has none
   pub exactly : (d e : Desk) (u : Use d e) → (e ≡ documented d u) × Answered d u
   -- any interleaving of runs (any limits), byte times and register calls over one row is a host's
   pub every-use : (d e : Desk) (u : Use d e) → IsHost u
@@ -134,13 +136,13 @@ LostExactly c {e} u Cause =
 
 pub record March : Type 0 where
   pub read : (c : Accepted) (e : Desk) (u : Use (since c) e)
-      → ReadByte (c .byte)
+      → ReadByte (c .machine .chip) (c .byte)
       → LostExactly c u (ByteLost (hostOf u silent) (since c))
   pub write : (c : Accepted) (e : Desk) (u : Use (since c) e)
-      → WriteByte (c .byte)
+      → WriteByte (c .machine .chip) (c .byte)
       → LostExactly c u (λ k. ZeroWritten (hostOf u silent) (since c) k ⊎ Terminated (hostOf u silent) (since c) k)
   pub never-silently : (c : Accepted) (e : Desk) (u : Use (since c) e) (k : ℕ)
-      → ReadByte (c .byte) ⊎ WriteByte (c .byte)
+      → ReadByte (c .machine .chip) (c .byte) ⊎ WriteByte (c .machine .chip) (c .byte)
       → throughout noCommand u ≡ true
       → k < passed u
       → PutOver (hostOf u silent) (since c) k

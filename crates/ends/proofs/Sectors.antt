@@ -10,7 +10,7 @@ use Rattle.scan.specs.DataMarks.{windowOf}
 use Rattle.command.specs.Bits.{isMultiple}
 use Rattle.command.specs.Commands.{jobOf}
 use Rattle.command.specs.Orders.{orderOf}
-use Rattle.command.specs.Sizes.{sizeOf}
+use Rattle.command.specs.Sizes.{fieldSize}
 use Rattle.command.specs.declared.Command.{Command}
 use Rattle.command.specs.declared.Job.{Job}
 use Rattle.command.specs.declared.Job.the-variants as job
@@ -22,7 +22,7 @@ use Rattle.registers.specs.declared.Ring.{Ring}
 use Rattle.act.specs.Turns.{jobBegun, begunActivity}
 use Rattle.hosts.specs.Hosts.{Host, Desk}
 use Rattle.hosts.specs.Scenes.{Scene, loaded, settling}
-use Rattle.command.proofs.Tables.{size-most}
+use Rattle.command.proofs.Tables.{field-size-most}
 use Rattle.hosts.proofs.Views.{View}
 use Rattle.hosts.proofs.Phases.{Stands}
 use Rattle.hosts.proofs.Passing.{streamFrom, OnTrack, on-track}
@@ -83,23 +83,23 @@ module _ {s : Scene} {command : Command} (x : Stays s command) where
   -- ---- Read Sector and Write Sector
 
   module _ (two : TypeTwo (jobOf command)) (single : isMultiple (s .byte) ≡ false) where
-    served-counted : (size : ℕ) (j : Job) → TypeTwo j → Counted (view .order) (afterMatch size j)
+    served-counted : (ibm : Bool) (length : ℕ) (j : Job) → TypeTwo j → Counted (view .order) (afterMatch ibm length j)
     unfolding orderOf afterMatch Counted
-    served-counted size job.ReadSector reads = single
-    served-counted size job.WriteSector writes = single
+    served-counted ibm length job.ReadSector reads = single
+    served-counted ibm length job.WriteSector writes = single
 
-    served-still : (size : ℕ) (j : Job) → TypeTwo j → seeks (afterMatch size j) ≡ false
+    served-still : (ibm : Bool) (length : ℕ) (j : Job) → TypeTwo j → seeks (afterMatch ibm length j) ≡ false
     unfolding afterMatch seeks
-    served-still size job.ReadSector reads = refl
-    served-still size job.WriteSector writes = refl
+    served-still ibm length job.ReadSector reads = refl
+    served-still ibm length job.WriteSector writes = refl
 
-    served-left : (n : ℕ) (r : Ring) (j : Job) → TypeTwo j
-        → leftOf (view .order) (view .mfm) 0 r (view .tr) (afterMatch n j) ≤ 1069
+    served-left : (ibm : Bool) (n : ℕ) (r : Ring) (j : Job) → TypeTwo j
+        → leftOf (view .order) (view .mfm) 0 r (view .tr) (afterMatch ibm n j) ≤ 1069
     unfolding afterMatch leftOf
-    served-left n r job.ReadSector reads =
-        omega (arith, field-most (view .mfm) (sizeOf n) (size-most n) .0, field-some (view .mfm) .0)
-    served-left n r job.WriteSector writes =
-        omega (arith, field-most (view .mfm) (sizeOf n) (size-most n) .1, field-some (view .mfm) .1)
+    served-left ibm n r job.ReadSector reads =
+        omega (arith, field-most (view .mfm) (fieldSize ibm n) (field-size-most ibm n) .0, field-some (view .mfm) .0)
+    served-left ibm n r job.WriteSector writes =
+        omega (arith, field-most (view .mfm) (fieldSize ibm n) (field-size-most ibm n) .1, field-some (view .mfm) .1)
 
     short-search : Short (idSearch (lowWorking x) two (lowHeads x))
     unfolding orderOf
@@ -109,8 +109,8 @@ module _ {s : Scene} {command : Command} (x : Stays s command) where
           long = long (lowWorking x);
           rest = 1069;
           found = λ n here hit.
-              rest-over 1069 n _ here (served-counted _ (jobOf command) two) (served-still _ (jobOf command) two)
-              (λ r. served-left _ r (jobOf command) two);
+              rest-over 1069 n _ here (served-counted _ _ (jobOf command) two) (served-still _ _ (jobOf command) two)
+              (λ r. served-left _ _ r (jobOf command) two);
           width = idWidth (s .machine .mfm);
           soon = λ k hit.
               let on = hit-ring s command (settling s) (omega (arith, long (lowWorking x))) k hit in

@@ -24,7 +24,7 @@ use Rattle.hosts.specs.Scenes.{Scene, loaded, settling}
 -- is an accepted command; when it is over the host does as it likes.
 pub record EndPremises (s : Scene) (command : Command) : Type 0 where
   -- every accepted command
-  pub decodes : decodedOf (s .byte) ≡ Taken command
+  pub decodes : decodedOf (s .machine .chip) (s .byte) ≡ Taken command
   pub accepted : loadRegister (s .machine) (s .lines) 0 (s .byte) .number ≡ 0
   -- "without m", the bit of Type II
   pub single : (command ≡ ReadSector) ⊎ (command ≡ WriteSector) → isMultiple (s .byte) ≡ false

@@ -6,7 +6,6 @@ use lib.ListN.{length}
 use Rattle.common.proofs.Cases.{never}
 use Rattle.scan.specs.Streams.{idFrom}
 use Rattle.command.specs.Orders.{orderOf}
-use Rattle.command.specs.Sizes.{sizeOf}
 use Rattle.command.specs.declared.Command.the-variants.{ReadSector, WriteSector}
 use Rattle.writing.specs.Writing.{markPlace}
 use Rattle.fields.specs.Rings.{cellsOf}
@@ -17,7 +16,7 @@ use Rattle.hosts.proofs.Collected.{listed, listed-same, listed-length}
 use Rattle.hosts.proofs.ReadThrough as through
 use Rattle.hosts.proofs.ReadStatus as status
 use Rattle.hosts.proofs.ReadThrough.{Meets}
-use Rattle.exact.specs.Demand2.{Session, writeScene, readScene, begun, resumed, Commands, ReadBackPremises, FewerPremises, InPlace, ReadsBack}
+use Rattle.exact.specs.Demand2.{Session, writeScene, readScene, begun, resumed, Commands, ReadBackPremises, FewerPremises, InPlace, sizeAt, ReadsBack}
 use Rattle.exact.proofs.SectorField.{Field}
 use Rattle.exact.proofs.WriteSession as write
 use Rattle.exact.proofs.ReadSession as read
@@ -94,9 +93,8 @@ module _ (s : Session) (p : ℕ) (a : FewerPremises s p) where
 
   -- ---- all of it
 
-  by-length : size ≡ sizeOf (idFrom (s .machine .mfm) (cellsOf (s .track)) p .length)
-  by-length =
-      ap (λ (q : ℕ). sizeOf (idFrom (s .machine .mfm) (cellsOf (s .track)) q .length)) (read.here s p a)
+  by-length : size ≡ sizeAt s p
+  by-length = ap (sizeAt s) (read.here s p a)
 
   read-back : ReadsBack s p
   unfolding orderOf

@@ -8,7 +8,8 @@ use lib.Dec.{leb, eqb}
 use borrow.Author.Tests.{leb-true}
 use Rattle.common.proofs.Arms.{range}
 use Rattle.common.proofs.Cases.{never, both}
-use Rattle.command.specs.Commands.{decodedOf, within}
+use Rattle.command.specs.Commands.{decodedByBoth, decodedOf, within}
+use Rattle.command.specs.declared.Chip.{Chip}
 use Rattle.command.specs.declared.Command.the-variants.{ReadSector, ForceInterrupt}
 use Rattle.command.specs.declared.Decoded.the-variants.{Taken}
 use Rattle.activity.specs.Limits.{busyIn}
@@ -18,13 +19,16 @@ use Rattle.wd.specs.declared.Machine.{Machine}
 use Rattle.wd.specs.Machines.{validOf}
 use Rattle.wd.specs.Loads.{commandAnswer, loadRegister}
 use Rattle.hosts.specs.Hosts.{servedAt, at}
+use Rattle.reachable.specs.Growth.{Fixed}
+use Rattle.reachable.proofs.Fixed.{further, load-fixed}
+use Rattle.hosts.proofs.Idling.{calls-fixed, host-fixed}
 use Rattle.hosts.proofs.QuietCalls.{calls-activity}
-use Rattle.exact.specs.Demand2.{Session, asked, Commands}
+use Rattle.exact.specs.Demand2.{Session, begun, asked, Commands}
 
 -- it is no Force Interrupt
-no-force : (b : ℕ) → decodedOf b ≡ Taken ReadSector → within 0xD0 0xDF b ≡ false
-unfolding decodedOf
-no-force b e = by (within 0xD0 0xDF b) refl
+no-force : (chip : Chip) (b : ℕ) → decodedOf chip b ≡ Taken ReadSector → within 0xD0 0xDF b ≡ false
+unfolding decodedOf decodedByBoth
+no-force chip b e = by (within 0xD0 0xDF b) refl
   where
     by : (force : Bool) → within 0xD0 0xDF b ≡ force → within 0xD0 0xDF b ≡ false
     by false f = f
@@ -32,7 +36,7 @@ no-force b e = by (within 0xD0 0xDF b) refl
         let h = both (leb 0xD0 b) (leb b 0xDF) f in
         let low : 0xD0 ≤ b = leb-true 0xD0 b (h .0) in
         let high : b ≤ 0xDF = leb-true b 0xDF (h .1) in
-        let z : Taken ForceInterrupt ≡ Taken ReadSector = range decodedOf 0xD0 16 refl low (omega arith) ∙ e in
+        let z : Taken ForceInterrupt ≡ Taken ReadSector = range (decodedOf chip) 0xD0 16 refl low (omega arith) ∙ e in
         never (cc)
 
 -- "any command byte outside D0-DF loaded while Busy"
@@ -45,7 +49,7 @@ idle-then m l b accepted other = by (busyIn (m .activity)) (validOf m) refl acce
   where
     by : (busy valid : Bool)
         → busyIn (m .activity) ≡ busy
-        → cond (eqb (loadRefusal valid busy 0 b) 0) (commandAnswer m l b (decodedOf b))
+        → cond (eqb (loadRefusal valid busy 0 b) 0) (commandAnswer m l b (decodedOf (m .chip) b))
         (record { number = loadRefusal valid busy 0 b; machine = m })
         .number ≡ 0
         → busyIn (m .activity) ≡ false
@@ -64,6 +68,14 @@ later s k = by (decLt (s .waited) (s .written))
         sym (k .ends .busy (s .waited) l)
         ∙ ap busyIn (sym (calls-activity _ (s .writer .calls (s .waited)) (k .next (s .waited) (omega arith))))
         ∙ idle-then (asked s .machine) (s .lines-then) (s .byte-then) (k .accepted-then)
-        (no-force (s .byte-then) (k .reads)) in
+        (no-force (asked s .machine .chip) (s .byte-then) (k .reads)) in
         never (cc)
     by (no l) = omega arith
+
+-- the read finds the chip, the density and the length that the write found
+pub asked-fixed : (s : Session) → Fixed (s .machine) (asked s .machine)
+unfolding servedAt
+asked-fixed s =
+    further (load-fixed (s .machine) (s .lines) 0 (s .byte))
+    (further (host-fixed (s .writer) (begun s) (s .waited))
+    (calls-fixed (at (s .writer) (begun s) (s .waited) .machine) (s .writer .calls (s .waited))))

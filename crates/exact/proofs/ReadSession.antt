@@ -10,16 +10,15 @@ use lib.ListN.{length}
 use Rattle.scan.specs.Streams.{IdAt, idWidth, idFrom}
 use Rattle.scan.specs.declared.Id.{Id}
 use Rattle.command.specs.Commands.{classOf}
-use Rattle.command.specs.Sizes.{sizeOf}
+use Rattle.command.specs.Sizes.{fieldSize}
 use Rattle.command.specs.declared.Command.the-variants.{ReadSector}
 use Rattle.writing.specs.Writing.{lastKept, markPlace}
 use Rattle.accepting.specs.Accepting.{writes, heldBy}
 use Rattle.fields.specs.Rings.{cellsOf}
 use Rattle.wd.specs.declared.Machine.{Machine}
 use Rattle.hosts.specs.Hosts.{servedAt, at}
-use Rattle.hosts.proofs.QuietCalls.{calls-bus}
 use Rattle.hosts.proofs.Views.{View}
-use Rattle.hosts.proofs.Idling.{same-density, left-row}
+use Rattle.hosts.proofs.Idling.{left-row}
 use Rattle.hosts.specs.Scenes.{Suits}
 use Rattle.hosts.proofs.Searching.{reads-two}
 use Rattle.hosts.proofs.RingIds.{same-side-suits, IdOnRing}
@@ -29,7 +28,7 @@ use Rattle.hosts.proofs.ReadThrough.{FieldIn, EndedRead, working, heads, FoundI
 use Rattle.exact.specs.Demand2.{Session, begun, asked, writeScene, readScene, Commands, FewerPremises, clearCells}
 use Rattle.exact.proofs.SectorField.{Field}
 use Rattle.exact.proofs.OneMark.{Behind}
-use Rattle.exact.proofs.NextCommand.{later}
+use Rattle.exact.proofs.NextCommand.{later, asked-fixed}
 use Rattle.exact.proofs.OldIds.{WrittenOver, stood-before, stands-still}
 use Rattle.exact.proofs.WriteSession as write
 use Rattle.exact.proofs.WrittenField.{field-read}
@@ -70,12 +69,7 @@ module _ (s : Session) (p : ℕ) (a : FewerPremises s p) where
   -- ---- the machine and the track that the read finds
 
   same-mfm : asked s .machine .mfm ≡ mfm
-  unfolding servedAt
-  same-mfm =
-      ap (λ (m : Machine). m .mfm)
-      (calls-bus (at (s .writer) (begun s) (s .waited) .machine) (s .writer .calls (s .waited)) (k .next (s .waited) (omega arith)))
-      ∙ same-density (s .writer) (begun s) (s .waited)
-      ∙ ap (λ (v : View). v .mfm) (given-view (write.given s k))
+  same-mfm = asked-fixed s .density
 
   same-row : asked s .row ≡ now
   unfolding servedAt
@@ -104,7 +98,7 @@ module _ (s : Session) (p : ℕ) (a : FewerPremises s p) where
       record {
         track = e .track ∙ sym (k .same-tr);
         sector = e .sector ∙ sym (k .same-sr);
-        side = same-side-suits (s .byte) (s .byte-then) (id .side) (k .same-side) (e .side);
+        side = same-side-suits (s .machine .chip) (asked s .machine .chip) (s .byte) (s .byte-then) (id .side) (k .same-side) (e .side);
         good = e .good;
       }
 
@@ -113,7 +107,7 @@ module _ (s : Session) (p : ℕ) (a : FewerPremises s p) where
       record {
         track = e .track ∙ k .same-tr;
         sector = e .sector ∙ k .same-sr;
-        side = same-side-suits (s .byte-then) (s .byte) (id .side) (sym (k .same-side)) (e .side);
+        side = same-side-suits (asked s .machine .chip) (s .machine .chip) (s .byte-then) (s .byte) (id .side) (sym (k .same-side)) (e .side);
         good = e .good;
       }
 
@@ -174,7 +168,8 @@ module _ (s : Session) (p : ℕ) (a : FewerPremises s p) where
   -- ---- it meets the field
 
   pub same-size : foundSize found ≡ write.size s k
-  same-size = ap (λ (id : Id). sizeOf (id .length)) (stood .1 ∙ ap idBefore same-place)
+  same-size =
+      ap₂ (λ (ibm : Bool) (id : Id). fieldSize ibm (id .length)) (k .same-lengths) (stood .1 ∙ ap idBefore same-place)
 
   -- what passes then is what was written
   pub passes : Behind (write.written s k) (cellsOn reading found)

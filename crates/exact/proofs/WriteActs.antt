@@ -8,11 +8,10 @@ use borrow.Author.Tests.{lt-ltb, le-leb, leb-true, ne-eqb}
 use Rattle.common.proofs.Cases.{by-cond}
 use Rattle.command.specs.Bits.{markWritten}
 use Rattle.command.specs.Commands.{jobOf}
-use Rattle.command.specs.Sizes.{sizes, sizeOf}
 use Rattle.command.specs.declared.Order.{Order}
 use Rattle.command.specs.declared.Job.{Job}
 use Rattle.command.specs.declared.Job.the-variants as job
-use Rattle.command.proofs.Tables.{of-four}
+use Rattle.command.proofs.Tables.{field-size-some}
 use Rattle.activity.specs.Acts.{pass}
 use Rattle.activity.specs.declared.Seen.{Seen}
 use Rattle.activity.specs.declared.Act.{Act}
@@ -54,10 +53,6 @@ asks-still n =
 
 -- ---- acts
 
-size-some : (length : ℕ) → 0 < sizeOf length
-unfolding sizeOf
-size-some length = leb-true 1 (sizeOf length) (of-four (leb 1) sizes refl length)
-
 module _ (o : Order) (s : Seen) where
   -- settling and searching goes on, fails, or has found an ID: there is a field to write
   pub data EarlyAct : Act → Type 0 where
@@ -65,11 +60,11 @@ module _ (o : Order) (s : Seen) where
     fails : EarlyAct (pass s Idle NotFound)
     finds : {left : ℕ} → 3 < left → EarlyAct (pass s (Preamble left 0) (Matched false))
 
-  found-act : (length : ℕ) (j : Job) → j ≡ job.WriteSector → EarlyAct (pass s (afterMatch length j) (Matched false))
+  found-act : (length : ℕ) (j : Job) → j ≡ job.WriteSector → EarlyAct (pass s (afterMatch (o .ibm) length j) (Matched false))
   unfolding afterMatch
   found-act length j e =
-      subst (λ (k : Job). EarlyAct (pass s (afterMatch length k) (Matched false))) (sym e)
-      (finds (omega (arith, size-some length)))
+      subst (λ (k : Job). EarlyAct (pass s (afterMatch (o .ibm) length k) (Matched false))) (sym e)
+      (finds (omega (arith, field-size-some (o .ibm) length)))
 
   module _ (job-is : jobOf (o .command) ≡ job.WriteSector) where
     acted : {a : Activity} {act : Act} → Early a → Acts o s a act → EarlyAct act

@@ -40,7 +40,7 @@ use Rattle.hosts.proofs.Working.{TakenUp, given-ring, Working, ended-working, e
 use Rattle.hosts.proofs.Found.{Found, Lost, searched, lost-over, foundTime, foundPlace, foundSize, found-on, found-view, found-place, found-silent}
 use Rattle.hosts.proofs.DrByte.{found-byte}
 use Rattle.hosts.proofs.Collected.{listed, listed-same, Stretch, collects}
-use Rattle.command.proofs.Tables.{size-most}
+use Rattle.command.proofs.Tables.{field-size-most}
 use Rattle.exact.specs.Demand2.{Session, writeScene, begun, Commands, NoMark, after}
 use Rattle.exact.proofs.NextCommand.{later}
 use Rattle.exact.proofs.SectorField.{Field, fieldReach}
@@ -143,7 +143,7 @@ module _ (s : Session) (k : Commands s) where
         held =
             turns-held (suc (found .q)) (beginning working heads .ring)
             (turns-held (heads .begun) (s .machine .ring) (given-ring given));
-        short = size-most _;
+        short = field-size-most _ _;
         single = k .single;
         served = k .fine .lost;
       }

@@ -7,10 +7,10 @@ use Prim.Native.Nat.{ℕ, suc, _+_, _≤_, _<_}
 use lib.ListN.{length}
 use Rattle.scan.specs.Marks.{leadOf}
 use Rattle.scan.specs.Streams.{MarkAt, IdAt, idWidth, idFrom}
-use Rattle.command.specs.Bits.{isMultiple, settlesFirst, sideAsked, markWritten}
+use Rattle.command.specs.Bits.{isMultiple, settlesFirst, sideAsked, ibmLengths, markWritten}
 use Rattle.scan.specs.DataMarks.{isDeleted}
 use Rattle.command.specs.Commands.{decodedOf}
-use Rattle.command.specs.Sizes.{sizeOf}
+use Rattle.command.specs.Sizes.{fieldSize}
 use Rattle.command.specs.declared.Command.the-variants.{ReadSector, WriteSector}
 use Rattle.command.specs.declared.Decoded.the-variants.{Taken}
 use Rattle.registers.specs.declared.Flags.{Flags}
@@ -91,7 +91,7 @@ pub record Commands (s : Session) : Type 0 where
   -- a byte in DR, as its type says
   pub dr : s .machine .regs .dr < 256
   -- "A single Write Sector accepted with the drive ready": without m
-  pub writes : decodedOf (s .byte) ≡ Taken WriteSector
+  pub writes : decodedOf (s .machine .chip) (s .byte) ≡ Taken WriteSector
   pub single : isMultiple (s .byte) ≡ false
   pub accepted : loadRegister (s .machine) (s .lines) 0 (s .byte) .number ≡ 0
   pub ready : s .lines .ready ≡ true
@@ -101,12 +101,13 @@ pub record Commands (s : Session) : Type 0 where
   -- "the next command": none is accepted before it (nor is it accepted before the write has ended)
   pub next : AloneUntil (s .writer) (begun s) (suc (s .waited))
   -- "by a Read Sector on the same registers and flags (bit 0 aside, which is 0 there)"
-  pub reads : decodedOf (s .byte-then) ≡ Taken ReadSector
+  pub reads : decodedOf (asked s .machine .chip) (s .byte-then) ≡ Taken ReadSector
   pub same-tr : asked s .machine .regs .tr ≡ s .machine .regs .tr
   pub same-sr : asked s .machine .regs .sr ≡ s .machine .regs .sr
   pub same-m : isMultiple (s .byte-then) ≡ isMultiple (s .byte)
   pub same-e : settlesFirst (s .byte-then) ≡ settlesFirst (s .byte)
-  pub same-side : sideAsked (s .byte-then) ≡ sideAsked (s .byte)
+  pub same-side : sideAsked (asked s .machine .chip) (s .byte-then) ≡ sideAsked (s .machine .chip) (s .byte)
+  pub same-lengths : ibmLengths (asked s .machine .chip) (s .byte-then) ≡ ibmLengths (s .machine .chip) (s .byte)
   -- "accepted with the drive ready and ending by itself"
   pub accepted-then : loadRegister (asked s .machine) (s .lines-then) 0 (s .byte-then) .number ≡ 0
   pub ready-then : s .lines-then .ready ≡ true
@@ -150,7 +151,7 @@ pub record ReadBackPremises (s : Session) (p : ℕ) : Type 0 where
   pub no-mark : NoMark (s .machine .mfm) (after (s .machine .mfm) (s .track) p) (clearCells (s .machine .mfm))
 
 -- The same asking less of the track: of the IDs there just one is such that the command goes by it, with that track, sector
--- and, with C, side, and a good CRC.
+-- and, where one is asked for, side, and a good CRC.
 pub record FewerPremises (s : Session) (p : ℕ) : Type 0 where
   pub commands : Commands s
   pub one-match :
@@ -181,15 +182,18 @@ pub record InPlace (s : Session) (size w r : ℕ) : Type 0 where
       → at (s .reader) (resumed s) (r + i) .machine .ring .position
       ≡ at (s .writer) (begun s) (w + i) .machine .ring .position
 
+-- "The two low bits of length give 128, 256, 512, 1,024.", on the 1797 with L 0 256, 512, 1,024, 128: the bytes of the field after the
+-- ID at cell p
+abbrev pub sizeAt : Session → ℕ → ℕ
+sizeAt s p = fieldSize (ibmLengths (s .machine .chip) (s .byte)) (idFrom (s .machine .mfm) (cellsOf (s .track)) p .length)
+
 pub record ReadsBack (s : Session) (p : ℕ) : Type 0 where
   -- "reads back the same": the bytes that the read handed over, each in its byte time, are those that the write took
   pub same : handed (s .reader) (resumed s) (s .read) ≡ taken (s .writer) (begun s) (s .written)
-  -- "The two low bits of length give 128, 256, 512, 1,024."
-  pub many :
-      length (taken (s .writer) (begun s) (s .written))
-      ≡ sizeOf (idFrom (s .machine .mfm) (cellsOf (s .track)) p .length)
+  -- as many as the ID's length says
+  pub many : length (taken (s .writer) (begun s) (s .written)) ≡ sizeAt s p
   -- each in its own byte time, as its cell passes
-  pub each : (w : ℕ) × (r : ℕ) × InPlace s (sizeOf (idFrom (s .machine .mfm) (cellsOf (s .track)) p .length)) w r
+  pub each : (w : ℕ) × (r : ℕ) × InPlace s (sizeAt s p) w r
   -- "When it ends by itself, Busy goes off and INTRQ on in that byte time.": of the write, and of the read
   pub raised : wrote s .wires .intrq ≡ true
   pub raised-then : got s .wires .intrq ≡ true

@@ -17,7 +17,7 @@ use Rattle.hosts.specs.Bytes.{deedAt, taken}
 
 -- a Write Sector, with m or without, that is accepted and ends by itself in byte time n; of lines and track nothing is asked
 pub record WritePremises (s : Scene) (n : ℕ) : Type 0 where
-  pub writes : decodedOf (s .byte) ≡ Taken WriteSector
+  pub writes : decodedOf (s .machine .chip) (s .byte) ≡ Taken WriteSector
   pub accepted : loadRegister (s .machine) (s .lines) 0 (s .byte) .number ≡ 0
   pub alone : AloneUntil (s .host) (loaded s) n
   pub ends : EndsAt (s .host) (loaded s) n

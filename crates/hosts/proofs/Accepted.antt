@@ -39,7 +39,7 @@ module _ (m : Machine) (l : Lines) (b : ℕ) (accepted : loadRegister m l 0 b .n
       by :
           (free : Bool)
           → eqb (loadRefusal (validOf m) (busyIn (m .activity)) 0 b) 0 ≡ free
-          → cond free (commandAnswer m l b (decodedOf b))
+          → cond free (commandAnswer m l b (decodedOf (m .chip) b))
           (record { number = loadRefusal (validOf m) (busyIn (m .activity)) 0 b; machine = m })
           .number ≡ 0
           → free ≡ true
@@ -54,7 +54,7 @@ module _ (m : Machine) (l : Lines) (b : ℕ) (accepted : loadRegister m l 0 b .n
       by true e = refl
       by false e = never (cc)
 
-  pub accepted-machine : (command : Command) → decodedOf b ≡ Taken command → loadRegister m l 0 b .machine ≡ commandBegun m l b command
+  pub accepted-machine : (command : Command) → decodedOf (m .chip) b ≡ Taken command → loadRegister m l 0 b .machine ≡ commandBegun m l b command
   unfolding loadRegister commandAnswer
   accepted-machine command e = simp (unrefused, e)
 
@@ -99,14 +99,14 @@ groundOf s command =
       tr = s .machine .regs .tr;
       sr = s .machine .regs .sr;
       missing = false;
-      order = orderOf command (s .byte) (s .machine .head .inward);
+      order = orderOf (s .machine .chip) command (s .byte) (s .machine .head .inward);
       activity = Settle (settling s);
     }
 
 pub begun-view :
     (s : Scene) (command : Command)
     → loadRegister (s .machine) (s .lines) 0 (s .byte) .number ≡ 0
-    → decodedOf (s .byte) ≡ Taken command
+    → decodedOf (s .machine .chip) (s .byte) ≡ Taken command
     → classOf command ≡ Works
     → endsAtOnce command (s .lines) ≡ false
     → viewOf (loaded s) ≡ groundOf s command
@@ -120,7 +120,7 @@ begun-view s command accepted e works goes =
       tr = regs i .tr;
       sr = regs i .sr;
       missing = beginFlags (m .flags) (heldBy command l) (busyIn (m .activity)) (works i) .missing;
-      order = orderOf command b (m .head .inward);
+      order = orderOf (m .chip) command b (m .head .inward);
       activity = begun-settles (classOf command) (endsAtOnce command l) (m .mfm) b works goes i;
     })
   where
@@ -143,7 +143,7 @@ flagsGiven held =
     record { type1 = false; protected = held; deleted = false; missing = false; crc = false; lost = false }
 
 -- "An accepted command .. clears bits 3, 4, Lost Data, type bits and DRQ", "a write under protection sets bit 6"
-module _ (s : Scene) (command : Command) (is : decodedOf (s .byte) ≡ Taken command) (works : classOf command ≡ Works)
+module _ (s : Scene) (command : Command) (is : decodedOf (s .machine .chip) (s .byte) ≡ Taken command) (works : classOf command ≡ Works)
     (accepted : loadRegister (s .machine) (s .lines) 0 (s .byte) .number ≡ 0) where
   taken-up : loaded s .machine ≡ commandBegun (s .machine) (s .lines) (s .byte) command
   taken-up = accepted-machine (s .machine) (s .lines) (s .byte) accepted command is

@@ -109,7 +109,7 @@ load-byte m l number b byte low =
     by-cond (λ (q : Loaded). q .machine .regs .dr < 256) (eqb (loadRefusal (validOf m) (busyIn (m .activity)) number b) 0)
     (λ taken.
     by-cond (λ (q : Loaded). q .machine .regs .dr < 256) (eqb number 0)
-    (λ command. answer-byte m l b (decodedOf b) low)
+    (λ command. answer-byte m l b (decodedOf (m .chip) b) low)
     (λ other.
     by-cond (λ (r : Regs). r .dr < 256) (eqb number 1)
     (λ tr. low)

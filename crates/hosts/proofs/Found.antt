@@ -13,7 +13,8 @@ use Rattle.scan.specs.Marks.{leadOf}
 use Rattle.scan.specs.Streams.{idWidth, idFrom, scanAfter}
 use Rattle.command.specs.Commands.{jobOf}
 use Rattle.command.specs.Orders.{orderOf}
-use Rattle.command.specs.Sizes.{sizeOf}
+use Rattle.command.specs.Bits.{ibmLengths}
+use Rattle.command.specs.Sizes.{fieldSize}
 use Rattle.command.specs.declared.Command.{Command}
 use Rattle.activity.specs.declared.Seen.{Seen}
 use Rattle.activity.specs.declared.Activity.the-variants.{Settle, Search}
@@ -27,7 +28,7 @@ use Rattle.hosts.specs.Hosts.{at}
 use Rattle.hosts.specs.Bytes.{deedAt}
 use Rattle.hosts.specs.Scenes.{Scene, loaded}
 use Rattle.hosts.specs.Tracks.{positionAt}
-use Rattle.command.proofs.Tables.{size-most}
+use Rattle.command.proofs.Tables.{field-size-most}
 use Rattle.hosts.proofs.Pulses.{pulseTime, pulse-least}
 use Rattle.hosts.proofs.Firsts.{First, FirstOrNone}
 use Rattle.hosts.proofs.Views.{Outside}
@@ -146,23 +147,26 @@ module _ {Rows : List ℕ → Type 0} {s : Scene} {command : Command} {w : Worki
     foundPlace = positionAt (length (s .row)) (beginning w heads .ring .position) (hit .a)
 
     abbrev pub foundSize : ℕ
-    foundSize = sizeOf (idFrom (s .machine .mfm) (cellsOf (s .row)) foundPlace .length)
+    foundSize =
+        fieldSize (ibmLengths (s .machine .chip) (s .byte)) (idFrom (s .machine .mfm) (cellsOf (s .row)) foundPlace .length)
 
     pub found-on : IdOnRing s foundPlace
     found-on = hit .on-ring
 
     pub found-view :
         Stands (courseOf w) (heads .begun) (beginning w heads) (suc (f .q)) false
-        (afterMatch (idFrom (s .machine .mfm) (cellsOf (s .row)) foundPlace .length) (jobOf command))
+        (afterMatch (ibmLengths (s .machine .chip) (s .byte)) (idFrom (s .machine .mfm) (cellsOf (s .row)) foundPlace .length)
+        (jobOf command))
     unfolding orderOf
     found-view =
         subst
-        (λ (size : ℕ). Stands (courseOf w) (heads .begun) (beginning w heads) (suc (f .q)) false (afterMatch size (jobOf command)))
+        (λ (code : ℕ). Stands (courseOf w) (heads .begun) (beginning w heads) (suc (f .q)) false
+        (afterMatch (ibmLengths (s .machine .chip) (s .byte)) code (jobOf command)))
         (hit .length-is)
         (seeking.seek-hit (idSearch w two heads) (f .q) (f .soon) (f .first .none) (f .first .passes))
 
     pub found-size : foundSize ≤ 1024
-    found-size = size-most _
+    found-size = field-size-most _ _
 
     -- the cells after it
     pub found-cells :

@@ -37,7 +37,7 @@ unfolding calledOf
 call-fixed m (loads l number b byte) = load-fixed m l number b
 call-fixed m (reads l number) = read-fixed m l number
 
-calls-fixed : (m : Machine) (cs : List Call) → Fixed m (calledAll m cs)
+pub calls-fixed : (m : Machine) (cs : List Call) → Fixed m (calledAll m cs)
 unfolding calledAll
 calls-fixed m [] = as-given m
 calls-fixed m (c ∷ cs) = further (call-fixed m c) (calls-fixed (calledOf m c) cs)
@@ -113,9 +113,6 @@ idle-deed h d n quiet over = by (done-or-not h d n)
     by (no refused) = deed-none h d n refused
 
 -- ---- any number of them
-
-pub same-density : (h : Host) (d : Desk) (n : ℕ) → at h d n .machine .mfm ≡ d .machine .mfm
-same-density h d n = host-fixed h d n .density
 
 module _ (h : Host) (d : Desk) where
   idles : (n k : ℕ)

@@ -95,7 +95,7 @@ forces ForceInterrupt e = refl
 -- Of every command but Force Interrupt, in whatever byte time it ends by itself: no other is accepted before that.
 pub ends-told :
     (s : Scene) (command : Command)
-    → decodedOf (s .byte) ≡ Taken command
+    → decodedOf (s .machine .chip) (s .byte) ≡ Taken command
     → (command ≡ ForceInterrupt → ⊥)
     → loadRegister (s .machine) (s .lines) 0 (s .byte) .number ≡ 0
     → (n : ℕ)

@@ -71,7 +71,7 @@ module _ (m : Machine) (l : Lines) (number b : ℕ) where
       (eqb (loadRefusal (validOf m) (busyIn (m .activity)) number b) 0)
       (λ taken.
       by-cond (λ (q : Loaded). NoneIn q → P (q .machine)) (eqb number 0)
-      (λ zero quiet. subst P (sym (commanded-bus m l b (decodedOf b) (rw zero at quiet))) left)
+      (λ zero quiet. subst P (sym (commanded-bus m l b (decodedOf (m .chip) b) (rw zero at quiet))) left)
       (λ other quiet. sets other taken))
       (λ refused quiet. left)
 

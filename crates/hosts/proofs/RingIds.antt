@@ -18,7 +18,8 @@ use Rattle.scan.specs.declared.Heard.the-variants.{On, Whole}
 use Rattle.scan.proofs.Ids.{ids}
 use Rattle.command.specs.Orders.{orderOf}
 use Rattle.command.specs.Bits.{sideOf, sideAsked}
-use Rattle.command.specs.declared.SideAsked.{SideAsked}
+use Rattle.command.specs.declared.Chip.{Chip}
+use Rattle.command.specs.declared.Chip.the-variants.{Wd1793, Wd1797}
 use Rattle.command.specs.declared.SideAsked.the-variants.{Any, Only}
 use Rattle.command.specs.declared.Order.{Order}
 use Rattle.command.specs.declared.Command.{Command}
@@ -26,7 +27,7 @@ use Rattle.activity.specs.declared.Activity.the-variants.{Settle}
 use Rattle.search.specs.Search.{sideMatches}
 use Rattle.fields.specs.Rings.{cellsOf}
 use Rattle.hosts.specs.Tracks.{positionAt}
-use Rattle.hosts.specs.Scenes.{Scene, Suits}
+use Rattle.hosts.specs.Scenes.{Scene, SideSuits, Suits}
 use Rattle.hosts.proofs.RingLaws.{reached, id-moved, says-moved, passing-ring}
 use Rattle.hosts.proofs.Accepted.{groundOf}
 use Rattle.hosts.proofs.Views.{View}
@@ -36,57 +37,53 @@ use Rattle.hosts.proofs.Searching.{suitsFor, hitIn, lengthIn, hitAt}
 
 -- ---- which IDs
 
+-- the search's test of the side, and what it says
+side-suits : (chip : Chip) (b side : ℕ) → sideMatches side (sideAsked chip b) ≡ true → SideSuits chip b side
+unfolding sideMatches sideAsked sideOf
+side-suits Wd1793 b side e = λ asks. eqb-true side _ (rw asks at e)
+side-suits Wd1797 b side e = eqb-true side _ e
+
+side-matches : (chip : Chip) (b side : ℕ) → SideSuits chip b side → sideMatches side (sideAsked chip b) ≡ true
+unfolding sideMatches sideAsked sideOf
+side-matches Wd1793 b side suits = by (bitOf b 1) suits
+  where
+    by : (c : Bool)
+        → (c ≡ true → side ≡ cond (bitOf b 3) 1 0)
+        → sideMatches side (cond c (Only (cond (bitOf b 3) 1 0)) Any) ≡ true
+    by true same = eq-eqb side _ (same refl)
+    by false same = refl
+side-matches Wd1797 b side same = eq-eqb side _ same
+
+-- two commands that ask for the same side
+pub same-side-suits :
+    (chip chip′ : Chip) (b b′ side : ℕ) → sideAsked chip′ b′ ≡ sideAsked chip b → SideSuits chip b side → SideSuits chip′ b′ side
+same-side-suits chip chip′ b b′ side same suits =
+    side-suits chip′ b′ side (ap (sideMatches side) same ∙ side-matches chip b side suits)
+
 module _ (s : Scene) (command : Command) (id : Id) where
   -- the test that the search makes
   abbrev suited : Bool
   suited = suitsFor (groundOf s command .order) (s .machine .regs .tr) (s .machine .regs .sr) id
 
   suits-there : suited ≡ true → Suits s id
-  unfolding suitsFor orderOf sideMatches sideAsked sideOf
+  unfolding suitsFor orderOf
   suits-there e =
       let parts = both _ (id .good) e in
-      let sides = both _ (sideMatches (id .side) (sideAsked (s .byte))) (parts .0) in
+      let sides = both _ (sideMatches (id .side) (sideAsked (s .machine .chip) (s .byte))) (parts .0) in
       let targets = both (eqb (id .track) (s .machine .regs .tr)) (eqb (id .sector) (s .machine .regs .sr)) (sides .0) in
       record {
         track = eqb-true _ _ (targets .0);
         sector = eqb-true _ _ (targets .1);
-        side = λ asks. eqb-true (id .side) _ (rw asks at (sides .1));
+        side = side-suits (s .machine .chip) (s .byte) (id .side) (sides .1);
         good = parts .1;
       }
 
   suits-back : Suits s id → suited ≡ true
-  unfolding suitsFor orderOf sideMatches sideAsked sideOf
+  unfolding suitsFor orderOf
   suits-back h =
-      all (all (all (eq-eqb _ _ (h .track)) (eq-eqb _ _ (h .sector))) (by (bitOf (s .byte) 1) (h .side))) (h .good)
-    where
-      by : (c : Bool)
-          → (c ≡ true → id .side ≡ cond (bitOf (s .byte) 3) 1 0)
-          → sideMatches (id .side) (cond c (Only (cond (bitOf (s .byte) 3) 1 0)) Any) ≡ true
-      by true same = eq-eqb (id .side) _ (same refl)
-      by false same = refl
-
--- two commands that ask for the same side
-onlyOf : SideAsked → ℕ
-onlyOf Any = 0
-onlyOf (Only side) = side
-
-pub same-side-suits :
-    (b b′ side : ℕ)
-    → sideAsked b′ ≡ sideAsked b
-    → (bitOf b 1 ≡ true → side ≡ cond (bitOf b 3) 1 0)
-    → bitOf b′ 1 ≡ true
-    → side ≡ cond (bitOf b′ 3) 1 0
-unfolding sideAsked sideOf onlyOf
-same-side-suits b b′ side = by (bitOf b 1) (bitOf b′ 1)
-  where
-    by : (c c′ : Bool)
-        → cond c′ (Only (cond (bitOf b′ 3) 1 0)) Any ≡ cond c (Only (cond (bitOf b 3) 1 0)) Any
-        → (c ≡ true → side ≡ cond (bitOf b 3) 1 0)
-        → c′ ≡ true
-        → side ≡ cond (bitOf b′ 3) 1 0
-    by true true same suits asks = suits refl ∙ sym (ap onlyOf same)
-    by false true same suits asks = never (cc)
-    by c false same suits asks = never (cc)
+      all
+      (all (all (eq-eqb _ _ (h .track)) (eq-eqb _ _ (h .sector))) (side-matches (s .machine .chip) (s .byte) (id .side) (h .side)))
+      (h .good)
 
 -- one that the command goes by stands on the ring from cell p on
 pub record IdOnRing (s : Scene) (p : ℕ) : Type 0 where

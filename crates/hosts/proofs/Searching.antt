@@ -9,7 +9,6 @@ use Rattle.scan.specs.Streams.{scanPast, scanAfter, heardAt}
 use Rattle.scan.specs.declared.Id.{Id}
 use Rattle.scan.specs.declared.Heard.{Heard}
 use Rattle.scan.specs.declared.Heard.the-variants.{On, Whole}
-use Rattle.command.specs.Bits.{sideAsked}
 use Rattle.command.specs.Commands.{jobOf}
 use Rattle.command.specs.declared.Command.the-variants.{ReadSector, WriteSector}
 use Rattle.command.specs.declared.Order.{Order}
@@ -51,7 +50,7 @@ begun-two job.WriteSector writes s = refl
 
 -- "An ID matches if its track is TR and, for Type II, its sector is SR and, with C, its side is S", and it is good
 unfoldable pub suitsFor : Order → ℕ → ℕ → Id → Bool
-suitsFor o tr sr id = (eqb (id .track) tr && eqb (id .sector) sr && sideMatches (id .side) (sideAsked (o .byte))) && id .good
+suitsFor o tr sr id = (eqb (id .track) tr && eqb (id .sector) sr && sideMatches (id .side) (o .side)) && id .good
 
 -- the scanner says that such an ID ends
 unfoldable pub hitIn : Order → ℕ → ℕ → Heard → Bool
@@ -65,7 +64,7 @@ lengthIn (Whole id) = id .length
 
 matches-two : (o : Order) (s : Seen) (id : Id) (j : Job)
     → TypeTwo j
-    → matchesFor o s id j ≡ (eqb (id .track) (s .tr) && eqb (id .sector) (s .sr) && sideMatches (id .side) (sideAsked (o .byte)))
+    → matchesFor o s id j ≡ (eqb (id .track) (s .tr) && eqb (id .sector) (s .sr) && sideMatches (id .side) (o .side))
 unfolding matchesFor sectorMatches
 matches-two o s id job.ReadSector reads = refl
 matches-two o s id job.WriteSector writes = refl
@@ -76,7 +75,7 @@ module _ (o : Order) (s : Seen) (two : TypeTwo (jobOf (o .command))) (pulses : �
       → (matches && good) ≡ false
       → PhasePasses s
       (cond matches
-      (cond good (pass s (afterMatch length (jobOf (o .command))) (Matched false)) (pass s (afresh pulses) (Matched true)))
+      (cond good (pass s (afterMatch (o .ibm) length (jobOf (o .command))) (Matched false)) (pass s (afresh pulses) (Matched true)))
       (pass s (afresh pulses) Nothing))
       (afresh pulses)
   matched-on true true length e = never (cc)
@@ -92,17 +91,17 @@ module _ (o : Order) (s : Seen) (two : TypeTwo (jobOf (o .command))) (pulses : �
   hears-on (On scan) e = rests s (pass s (Search pulses scan) Nothing) (Search pulses scan) refl
   hears-on (Whole id) e =
       rw (matches-two o s id (jobOf (o .command)) two)
-      (matched-on (eqb (id .track) (s .tr) && eqb (id .sector) (s .sr) && sideMatches (id .side) (sideAsked (o .byte))) (id .good) (id .length) e)
+      (matched-on (eqb (id .track) (s .tr) && eqb (id .sector) (s .sr) && sideMatches (id .side) (o .side)) (id .good) (id .length) e)
 
   -- "a good match clears it"
   hears-hit :
       (heard : Heard)
       → hitIn o (s .tr) (s .sr) heard ≡ true
-      → searchStep o s pulses heard ≡ pass s (afterMatch (lengthIn heard) (jobOf (o .command))) (Matched false)
+      → searchStep o s pulses heard ≡ pass s (afterMatch (o .ibm) (lengthIn heard) (jobOf (o .command))) (Matched false)
   unfolding searchStep idFound hitIn suitsFor lengthIn
   hears-hit (On scan) e = never (cc)
   hears-hit (Whole id) e =
-      let parts = both (eqb (id .track) (s .tr) && eqb (id .sector) (s .sr) && sideMatches (id .side) (sideAsked (o .byte))) (id .good) e in
+      let parts = both (eqb (id .track) (s .tr) && eqb (id .sector) (s .sr) && sideMatches (id .side) (o .side)) (id .good) e in
       simp (matches-two o s id (jobOf (o .command)) two, parts .0, parts .1)
 
 -- ---- what a stream of them does
@@ -113,7 +112,7 @@ hitAt v n = hitIn (v .order) (v .tr) (v .sr) (heardAt (v .mfm) (streamFrom v) n)
 
 -- what the command does after it
 abbrev pub servedAfter : View → ℕ → Activity
-servedAfter v n = afterMatch (lengthIn (heardAt (v .mfm) (streamFrom v) n)) (jobOf (v .order .command))
+servedAfter v n = afterMatch (v .order .ibm) (lengthIn (heardAt (v .mfm) (streamFrom v) n)) (jobOf (v .order .command))
 
 pub search-busy : (v : View) (pulses n : ℕ) → busyIn (Search pulses (scanAfter (v .mfm) (streamFrom v) n)) ≡ true
 unfolding busyIn

@@ -51,7 +51,7 @@ early-at c t v {a = a} here busy rows two early =
 
 -- accepted, and not over with that
 pub record TakenUp (s : Scene) (command : Command) : Type 0 where
-  pub decodes : decodedOf (s .byte) ≡ Taken command
+  pub decodes : decodedOf (s .machine .chip) (s .byte) ≡ Taken command
   pub works : classOf command ≡ Works
   pub accepted : loadRegister (s .machine) (s .lines) 0 (s .byte) .number ≡ 0
   pub stays : endsAtOnce command (s .lines) ≡ false

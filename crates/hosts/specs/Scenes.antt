@@ -5,6 +5,8 @@ use mathlib.Core.List.{List}
 use Prim.Native.Nat.{ℕ}
 use Rattle.common.specs.Bits.{bitOf}
 use Rattle.scan.specs.declared.Id.{Id}
+use Rattle.command.specs.declared.Chip.{Chip}
+use Rattle.command.specs.declared.Chip.the-variants.{Wd1793, Wd1797}
 use Rattle.registers.specs.declared.Lines.{Lines}
 use Rattle.wd.specs.declared.Machine.{Machine}
 use Rattle.wd.specs.Loads.{loadRegister}
@@ -27,9 +29,14 @@ loaded s = record { machine = loadRegister (s .machine) (s .lines) 0 (s .byte) .
 abbrev pub settling : Scene → ℕ
 settling s = cond (bitOf (s .byte) 2) (cond (s .machine .mfm) 938 469) 0
 
--- "An ID matches if its track is TR and, for Type II, its sector is SR and, with C, its side is S"; "with a good CRC"
+-- ".. with C, its side is S"; on the 1797 bit 1 "becomes U", and "the ID's side must equal U"
+abbrev pub SideSuits : Chip → ℕ → ℕ → Type 0
+SideSuits Wd1793 byte side = bitOf byte 1 ≡ true → side ≡ cond (bitOf byte 3) 1 0
+SideSuits Wd1797 byte side = side ≡ cond (bitOf byte 1) 1 0
+
+-- "An ID matches if its track is TR and, for Type II, its sector is SR and, with C, its side is S", or on the 1797 U; "with a good CRC"
 pub record Suits (s : Scene) (id : Id) : Type 0 where
   pub track : id .track ≡ s .machine .regs .tr
   pub sector : id .sector ≡ s .machine .regs .sr
-  pub side : bitOf (s .byte) 1 ≡ true → id .side ≡ cond (bitOf (s .byte) 3) 1 0
+  pub side : SideSuits (s .machine .chip) (s .byte) (id .side)
   pub good : id .good ≡ true

@@ -7,7 +7,8 @@ use native.Mathlib.Nat.{mod-lt}
 use native.Mathlib.Omega.{arith}
 use lib.ListN.{length}
 use Rattle.scan.specs.Streams.{MarkAt}
-use Rattle.command.specs.Commands.{decodedOf}
+use Rattle.command.specs.declared.Chip.{Chip}
+use Rattle.command.specs.Commands.{decodedByBoth, decodedOf}
 use Rattle.common.specs.Bits.{bitOf}
 use Rattle.act.specs.Turns.{begunActivity, activityAct, actOf}
 use Rattle.activity.specs.Limits.{busyIn, countsWithin}
@@ -83,23 +84,23 @@ module _ (m : Machine) (size : m .ring .length ≡ sampleLength) (accepted : loa
   empty-asked = scene-asked m empty accepted (empty-length ∙ sym size) low-empty
 
   empty-from-0 : m .ring .position ≡ 0 → EndsAt reader (loaded (sceneOf m empty)) 8193
-  unfolding bitOf settlesFirst isMultiple verifiesTrack sideOf sideAsked markWritten turnsOn
+  unfolding bitOf settlesFirst turnsOn
   empty-from-0 = from-cell-0 (sceneOf m empty) empty-asked empty-length (empty-nowhere (sceneOf m empty) refl)
 
   empty-from-1 : m .ring .position ≡ 1 → EndsAt reader (loaded (sceneOf m empty)) 10240
-  unfolding bitOf settlesFirst isMultiple verifiesTrack sideOf sideAsked markWritten turnsOn
+  unfolding bitOf settlesFirst turnsOn
   empty-from-1 = from-cell-1 (sceneOf m empty) empty-asked empty-length (empty-nowhere (sceneOf m empty) refl)
 
 -- at power-on the head is on cell 0
-pub ends-at-8193 : (mfm : Bool) → EndsAt reader (loaded (sceneOf (fresh mfm) empty)) 8193
+pub ends-at-8193 : (mfm : Bool) (chip : Chip) → EndsAt reader (loaded (sceneOf (fresh mfm chip) empty)) 8193
 unfolding powerOn lengthWithin freshMachine
-ends-at-8193 mfm = empty-from-0 (fresh mfm) refl (fresh-accepts mfm) refl
+ends-at-8193 mfm chip = empty-from-0 (fresh mfm chip) refl (fresh-accepts mfm chip) refl
 
 -- one byte time later it is on cell 1
-abbrev later : Bool → Machine
-later mfm = byteTime (fresh mfm) on empty .machine
+abbrev later : Bool → Chip → Machine
+later mfm chip = byteTime (fresh mfm chip) on empty .machine
 
-pub ends-at-10240 : (mfm : Bool) → EndsAt reader (loaded (sceneOf (later mfm) empty)) 10240
+pub ends-at-10240 : (mfm : Bool) (chip : Chip) → EndsAt reader (loaded (sceneOf (later mfm chip) empty)) 10240
 unfolding powerOn lengthWithin freshMachine loadRegister loadRefusal guarded validOf ringWithin countsWithin busyIn commandAnswer
-    decodedOf byteTime rowRefusal doneBy cellTurn actApplied ringNext seenOf actOf begunActivity activityAct
-ends-at-10240 mfm = empty-from-1 (later mfm) refl refl refl
+    decodedOf decodedByBoth byteTime rowRefusal doneBy cellTurn actApplied ringNext seenOf actOf begunActivity activityAct
+ends-at-10240 mfm chip = empty-from-1 (later mfm chip) refl refl refl

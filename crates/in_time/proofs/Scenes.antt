@@ -5,7 +5,8 @@ use mathlib.Core.Bool.{Bool, false}
 use mathlib.Core.List.{List, [], _∷_}
 use Prim.Native.Nat.{ℕ, _≤_, _<_}
 use lib.ListN.{length, getD}
-use Rattle.command.specs.Commands.{decodedOf}
+use Rattle.command.specs.Commands.{decodedByBoth, decodedOf}
+use Rattle.command.specs.declared.Chip.{Chip}
 use Rattle.command.specs.declared.Command.the-variants.{ReadSector}
 use Rattle.command.specs.declared.Decoded.the-variants.{Taken}
 use Rattle.common.specs.Bits.{bitOf}
@@ -35,7 +36,7 @@ sceneBy byte m row = record { machine = m; lines = on; byte = byte; row = row; h
 
 pub asked-by :
     (byte : ℕ) (m : Machine) (row : List ℕ)
-    → decodedOf byte ≡ Taken ReadSector
+    → decodedOf (m .chip) byte ≡ Taken ReadSector
     → isMultiple byte ≡ false
     → loadRegister m on 0 byte .number ≡ 0
     → length row ≡ m .ring .length
@@ -63,14 +64,14 @@ pub scene-asked :
     → length row ≡ m .ring .length
     → ((i : ℕ) → i < length row → getD row i 0 ≤ 511)
     → InTimePremises (sceneOf m row)
-unfolding decodedOf bitOf isMultiple
+unfolding decodedOf decodedByBoth bitOf isMultiple
 scene-asked m row = asked-by 0x80 m row refl refl
 
--- power-on, either density
-abbrev pub fresh : Bool → Machine
-fresh mfm = powerOn sampleLength mfm .machine
+-- power-on, either density, either chip
+abbrev pub fresh : Bool → Chip → Machine
+fresh mfm chip = powerOn sampleLength mfm chip .machine
 
-pub fresh-accepts : (mfm : Bool) → loadRegister (fresh mfm) on 0 0x80 .number ≡ 0
+pub fresh-accepts : (mfm : Bool) (chip : Chip) → loadRegister (fresh mfm chip) on 0 0x80 .number ≡ 0
 unfolding loadRegister loadRefusal guarded validOf ringWithin lengthWithin countsWithin busyIn powerOn freshMachine
-    commandAnswer decodedOf
-fresh-accepts mfm = refl
+    commandAnswer decodedOf decodedByBoth
+fresh-accepts mfm chip = refl

@@ -24,7 +24,7 @@ use Rattle.scan.specs.declared.Id.{Id}
 use Rattle.scan.proofs.Ids.{ids}
 use Rattle.scan.proofs.DataMarks.{data-marks}
 use Rattle.common.specs.Bits.{bitOf}
-use Rattle.command.specs.Sizes.{sizeOf}
+use Rattle.command.specs.Sizes.{sizeOf, fieldSize}
 use Rattle.command.specs.declared.Command.the-variants.{ReadSector}
 use Rattle.scan.specs.Rows.{lengthWithin}
 use Rattle.fields.specs.Rings.{cellsOf}
@@ -46,7 +46,8 @@ use Rattle.in_time.specs.Demand3.{InTimePremises, streamOf, OnRing}
 use Rattle.in_time.proofs.Hits.{settledIn, afterId, id-ring}
 use Rattle.in_time.proofs.Underway.{working, heads}
 use Rattle.in_time.proofs.Scenes.{sceneOf, scene-asked, fresh, fresh-accepts}
-use Rattle.command.specs.Bits.{settlesFirst, isMultiple, verifiesTrack, sideOf, sideAsked, markWritten}
+use Rattle.command.specs.Bits.{settlesFirst, isMultiple, verifiesTrack, sideOf, sideAsked, ibmLengths, markWritten}
+use Rattle.command.specs.declared.Chip.the-variants.{Wd1793}
 
 -- ---- the track
 
@@ -66,11 +67,11 @@ track = front ++ back
 
 -- at power-on
 abbrev scene : Scene
-scene = sceneOf (fresh true) track
+scene = sceneOf (fresh true Wd1793) track
 
 asked : InTimePremises scene
 unfolding allLow powerOn lengthWithin freshMachine
-asked = scene-asked (fresh true) track (fresh-accepts true) refl (low-by track refl)
+asked = scene-asked (fresh true Wd1793) track (fresh-accepts true Wd1793) refl (low-by track refl)
 
 -- the stream is the track from cell 0 on
 cell : (n : ℕ) → streamOf scene n ≡ getD track (n % sampleLength) 0
@@ -182,9 +183,9 @@ marks =
 
 -- of 1,024 bytes
 long : foundSize found ≡ 1024
-unfolding sizeOf lengthIn found powerOn lengthWithin freshMachine
+unfolding fieldSize sizeOf ibmLengths lengthIn found powerOn lengthWithin freshMachine
 long =
-    ap sizeOf
+    ap (fieldSize true)
     (sym (hit-there found .length-is)
     ∙ ap lengthIn (ids true (streamOf scene) 2056 named .1 stands-there))
 

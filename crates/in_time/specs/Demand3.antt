@@ -28,7 +28,7 @@ use Rattle.hosts.specs.Tracks.{positionAt, passing, pulsesIn}
 -- of a command, its host and its track
 pub record InTimePremises (s : Scene) : Type 0 where
   -- "take a single Read Sector": without m
-  pub reads : decodedOf (s .byte) ≡ Taken ReadSector
+  pub reads : decodedOf (s .machine .chip) (s .byte) ≡ Taken ReadSector
   pub single : isMultiple (s .byte) ≡ false
   -- "accepted with the drive ready"
   pub accepted : loadRegister (s .machine) (s .lines) 0 (s .byte) .number ≡ 0

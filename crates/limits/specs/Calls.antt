@@ -2,6 +2,7 @@
 use mathlib.Core.Bool.{true, false}
 use mathlib.Core.List.{List, [], _∷_}
 use Prim.Native.Nat.{ℕ}
+use Rattle.command.specs.declared.Chip.the-variants.{Wd1793}
 use Rattle.activity.specs.declared.Activity.{Activity}
 use Rattle.registers.specs.declared.Lines.{Lines}
 use Rattle.registers.specs.declared.Ring.{Ring}
@@ -18,10 +19,12 @@ roomForCells = 6401
 -- the machine of power-on, but for its ring and its activity
 unfoldable pub machineWith : Ring → Activity → Machine
 machineWith ring activity =
-    let fresh = powerOn 2048 true .machine in
+    let fresh = powerOn 2048 true Wd1793 .machine in
     record {
       ring = ring;
+      chip = fresh .chip;
       mfm = fresh .mfm;
+      sso = fresh .sso;
       regs = fresh .regs;
       wires = fresh .wires;
       flags = fresh .flags;

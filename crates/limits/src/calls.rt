@@ -2,6 +2,7 @@
 ghost use mathlib.Core.Path.{_≡_};
 ghost use Rattle.limits.specs.Calls.{machineWith, numbersOf};
 use activity::Activity;
+use command::Chip;
 use registers::Lines;
 use registers::Ring;
 use wd::Machine;
@@ -10,8 +11,9 @@ use wd::Machine;
 pub fn machine(ring: Ring, activity: Activity) -> Machine
     ensures { λ r. ⌜ r ≡ machineWith ring activity ⌝ }
 {
-    let started = Machine::power_on(2048, true);
+    let started = Machine::power_on(2048, true, Chip::Wd1793);
     let fresh = started.machine;
+    let chip = fresh.chip;
     let regs = fresh.regs;
     let wires = fresh.wires;
     let flags = fresh.flags;
@@ -20,7 +22,9 @@ pub fn machine(ring: Ring, activity: Activity) -> Machine
     let order = fresh.order;
     Machine {
         ring,
+        chip,
         mfm: fresh.mfm,
+        sso: fresh.sso,
         regs,
         wires,
         flags,

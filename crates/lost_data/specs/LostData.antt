@@ -55,7 +55,7 @@ pub data WriteCommand : Command → Type 0 where
 
 -- the scene's command is this one and accepted, with the drive ready or not, and no other is before byte time n
 pub record AcceptedAlone (s : Scene) (command : Command) (n : ℕ) : Type 0 where
-  pub decodes : decodedOf (s .byte) ≡ Taken command
+  pub decodes : decodedOf (s .machine .chip) (s .byte) ≡ Taken command
   pub accepted : loadRegister (s .machine) (s .lines) 0 (s .byte) .number ≡ 0
   pub alone : AloneUntil (s .host) (loaded s) n
 

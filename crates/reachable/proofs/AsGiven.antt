@@ -58,7 +58,7 @@ load-machine m l number b =
     (eqb (loadRefusal (validOf m) (busyIn (m .activity)) number b) 0)
     (λ e.
     by-cond (λ (q : Loaded). (q .number ≡ 0 → ⊥) → q .machine ≡ m) (eqb number 0)
-    (λ z. commanded m l b (decodedOf b))
+    (λ z. commanded m l b (decodedOf (m .chip) b))
     (λ z refused. absurd (refused refl)))
     (λ e refused. refl)
 

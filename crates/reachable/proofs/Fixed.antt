@@ -1,5 +1,5 @@
--- "Power-on is given L and density (FM or MFM), fixed from then on.": every call, refused or not, hands back a machine with
--- the same two. Assumes nothing.
+-- "Power-on is given L and density (FM or MFM), fixed from then on", and names the chip: every call, refused or not, hands back a
+-- machine with the same three. Assumes nothing.
 use mathlib.Core.Path.{_≡_, refl, _∙_}
 use mathlib.Core.Bool.{Bool}
 use mathlib.Core.List.{List}
@@ -10,6 +10,7 @@ use lib.ListN.{length}
 use Rattle.common.proofs.Cases.{by-cond}
 use Rattle.scan.specs.Rows.{lengthWithin}
 use Rattle.command.specs.Commands.{decodedOf}
+use Rattle.command.specs.declared.Chip.{Chip}
 use Rattle.command.specs.declared.Decoded.{Decoded}
 use Rattle.command.specs.declared.Decoded.the-variants.{Taken, NoCommand}
 use Rattle.activity.specs.Limits.{busyIn}
@@ -29,29 +30,34 @@ use Rattle.wd.proofs.Valid.{next-length}
 use Rattle.reachable.specs.Growth.{Fixed}
 
 pub as-given : (m : Machine) → Fixed m m
-as-given m = record { length = refl; density = refl }
+as-given m = record { length = refl; density = refl; chip = refl }
 
 pub further : {m n o : Machine} → Fixed m n → Fixed n o → Fixed m o
-further p q = record { length = q .length ∙ p .length; density = q .density ∙ p .density }
+further p q = record { length = q .length ∙ p .length; density = q .density ∙ p .density; chip = q .chip ∙ p .chip }
 
 -- ---- power-on
 
--- it gives the two that it is given
+-- it gives the length and the density that it is given
 pub power-on-given :
-    (size : ℕ) (mfm : Bool)
-    → powerOn size mfm .number ≡ 0
-    → (powerOn size mfm .machine .ring .length ≡ size) × (powerOn size mfm .machine .mfm ≡ mfm)
+    (size : ℕ) (mfm : Bool) (chip : Chip)
+    → powerOn size mfm chip .number ≡ 0
+    → (powerOn size mfm chip .machine .ring .length ≡ size) × (powerOn size mfm chip .machine .mfm ≡ mfm)
 unfolding powerOn freshMachine
-power-on-given size mfm =
+power-on-given size mfm chip =
     by-cond (λ (q : Started). q .number ≡ 0 → (q .machine .ring .length ≡ size) × (q .machine .mfm ≡ mfm)) (lengthWithin size)
     (λ e done. (refl, refl))
     (λ e done. absurd (omega arith))
+
+-- and the chip, even where it refuses
+pub power-on-chip : (size : ℕ) (mfm : Bool) (chip : Chip) → powerOn size mfm chip .machine .chip ≡ chip
+unfolding powerOn freshMachine
+power-on-chip size mfm chip = by-cond (λ (q : Started). q .machine .chip ≡ chip) (lengthWithin size) (λ e. refl) (λ e. refl)
 
 -- ---- the calls
 
 commanded-fixed : (m : Machine) (l : Lines) (b : ℕ) (d : Decoded) → Fixed m (commandAnswer m l b d .machine)
 unfolding commandAnswer commandBegun
-commanded-fixed m l b (Taken command) = record { length = refl; density = refl }
+commanded-fixed m l b (Taken command) = record { length = refl; density = refl; chip = refl }
 commanded-fixed m l b NoCommand = as-given m
 
 pub load-fixed : (m : Machine) (l : Lines) (number b : ℕ) → Fixed m (loadRegister m l number b .machine)
@@ -60,15 +66,15 @@ load-fixed m l number b =
     by-cond (λ (q : Loaded). Fixed m (q .machine)) (eqb (loadRefusal (validOf m) (busyIn (m .activity)) number b) 0)
     (λ e.
     by-cond (λ (q : Loaded). Fixed m (q .machine)) (eqb number 0)
-    (λ f. commanded-fixed m l b (decodedOf b))
-    (λ f. record { length = refl; density = refl }))
+    (λ f. commanded-fixed m l b (decodedOf (m .chip) b))
+    (λ f. record { length = refl; density = refl; chip = refl }))
     (λ e. as-given m)
 
 pub read-fixed : (m : Machine) (l : Lines) (number : ℕ) → Fixed m (readRegister m l number .machine)
 unfolding readRegister
 read-fixed m l number =
     by-cond (λ (q : Read). Fixed m (q .machine)) (eqb (readRefusal (validOf m) number) 0)
-    (λ e. record { length = refl; density = refl })
+    (λ e. record { length = refl; density = refl; chip = refl })
     (λ e. as-given m)
 
 pub byte-time-fixed : (m : Machine) (l : Lines) (row : List ℕ) → Fixed m (byteTime m l row .machine)
@@ -78,7 +84,7 @@ byte-time-fixed m l row =
     (λ e.
     by-cond (λ (p : Passed). Fixed m (p .machine)) (ltb 511 (under m row))
     (λ f. as-given m)
-    (λ f. record { length = next-length (m .ring); density = refl }))
+    (λ f. record { length = next-length (m .ring); density = refl; chip = refl }))
     (λ e. as-given m)
 
 runs-fixed : (n : ℕ) (l : Lines) (r : Run) → Fixed (r .ran .machine) (runsOn n l r .ran .machine)

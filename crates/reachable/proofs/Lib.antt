@@ -4,6 +4,7 @@ pub mod Cases
 pub mod AsGiven
 pub mod OneCell
 pub mod Fixed
+pub mod Sides
 pub mod Runs
 pub mod Counts
 pub mod Within

@@ -11,12 +11,13 @@ use Rattle.scan.specs.Marks.{leadOf, carriesMark, syncRun, markStep, markBytes,
 use Rattle.scan.specs.DataMarks.{windowOf, markByte, isDeleted, dataMarkOf, dataMarkIn, dataMarkStep}
 use Rattle.scan.specs.Ids.{idBegun, pushedOf, wholeOf, idByteStep, runIn, idCellStep, idMarkStep, idStep}
 use Rattle.scan.specs.declared.Scan.the-variants.{Gap}
-use Rattle.command.specs.Bits.{updatesTrack, loadsHead, verifiesTrack, isMultiple, settlesFirst, sideOf, sideAsked, markWritten}
-use Rattle.command.specs.Commands.{classOf, decodedOf, isRestore, jobOf}
+use Rattle.command.specs.Bits.{updatesTrack, loadsHead, verifiesTrack, isMultiple, settlesFirst, sideOf, sideAsked, ibmLengths, markWritten}
+use Rattle.command.specs.Commands.{classOf, decodedByBoth, decodedOf, isRestore, jobOf}
 use Rattle.command.specs.Orders.{inwardOf, orderOf}
 use Rattle.common.specs.Bits.{bitOf}
-use Rattle.command.specs.Sizes.{sizeOf}
+use Rattle.command.specs.Sizes.{sizeOf, fieldSize}
 use Rattle.command.specs.Times.{stepTimeOf, settleTimeOf}
+use Rattle.command.specs.declared.Chip.the-variants.{Wd1793}
 use Rattle.activity.specs.Acts.{takenOf}
 use Rattle.activity.specs.Limits.{busyIn, scanWithin, countsWithin}
 use Rattle.stepping.specs.Stepping.{stopAct, trackAfter, stepAct, seekDecision, seekTurn, pulseTurn, stopTurn}
@@ -48,9 +49,9 @@ Grows = (m : Machine) × Grown m
 abbrev loads : (number b : ℕ) → ltb b 256 ≡ true → Grows → Grows
 loads number b h (m, g) = (loadRegister m on number b .machine, load g on number b (ltb-true b 256 h))
 
--- power-on, and a command
+-- power-on of a WD1793, and a command
 abbrev commanded : Bool → (b : ℕ) → ltb b 256 ≡ true → Grows
-commanded mfm b h = loads 0 b h (powerOn sampleLength mfm .machine, power-on sampleLength mfm)
+commanded mfm b h = loads 0 b h (powerOn sampleLength mfm Wd1793 .machine, power-on sampleLength mfm Wd1793)
 
 -- so many byte times over a track that begins with these cells and has 00 after them
 abbrev passes : ℕ → List ℕ → Grows → Grows
@@ -124,8 +125,8 @@ putting = passes 1 mfm-id preparing
 pub reached : EachCount Reached
 unfolding crcBit putting seeking stopping settling searching scanning hearing awaiting reading hunting marking naming
     preparing crcBits crcByte crcOver leadOf carriesMark syncRun markStep markBytes markCrc markByte isDeleted dataMarkOf
-    dataMarkIn dataMarkStep idBegun pushedOf wholeOf idByteStep runIn idCellStep idMarkStep idStep bitOf updatesTrack loadsHead verifiesTrack isMultiple settlesFirst sideOf sideAsked markWritten isRestore decodedOf classOf jobOf
-    inwardOf orderOf sizeOf stepTimeOf settleTimeOf busyIn scanWithin countsWithin stopAct trackAfter stepAct seekDecision seekTurn
+    dataMarkIn dataMarkStep idBegun pushedOf wholeOf idByteStep runIn idCellStep idMarkStep idStep bitOf updatesTrack loadsHead verifiesTrack isMultiple settlesFirst sideOf sideAsked ibmLengths markWritten isRestore decodedOf decodedByBoth classOf jobOf
+    inwardOf orderOf sizeOf fieldSize stepTimeOf settleTimeOf busyIn scanWithin countsWithin stopAct trackAfter stepAct seekDecision seekTurn
     pulseTurn stopTurn pulsesSeen sideMatches sectorMatches matchesFor afterMatch idFound searchStep searchCell windowOf windowMissed windowStep
     windowCell afterRecord dataCell addressBegun huntStep huntCell addressTrack addressCell trackCell lastKept lastZero markPlace
     markCell preambleCell preambleNext preambleDeed preambleTurn takenOf putCell jobBegun begunActivity

@@ -9,6 +9,7 @@ use lib.ListN.{length}
 use Rattle.common.proofs.Cases.{by-cond, both, all}
 use Rattle.command.specs.Bits.{settlesFirst}
 use Rattle.command.specs.Commands.{classOf, decodedOf}
+use Rattle.command.specs.declared.Chip.{Chip}
 use Rattle.command.specs.declared.Decoded.{Decoded}
 use Rattle.command.specs.declared.Decoded.the-variants.{Taken, NoCommand}
 use Rattle.command.specs.declared.Class.{Class}
@@ -39,21 +40,21 @@ Valid m = validOf m ≡ true
 
 -- ---- power-on
 
-fresh-valid : (size : ℕ) (mfm : Bool) → lengthWithin size ≡ true → Valid (freshMachine size mfm)
+fresh-valid : (size : ℕ) (mfm : Bool) (chip : Chip) → lengthWithin size ≡ true → Valid (freshMachine size mfm chip)
 unfolding validOf freshMachine countsWithin
-fresh-valid size mfm e =
+fresh-valid size mfm chip e =
     let least = within-least size e in
     all
-    (held-ring (freshMachine size mfm .ring)
+    (held-ring (freshMachine size mfm chip .ring)
     (record { least = least; most = within-most size e; inside = omega (arith, least) }))
     refl
 
-pub power-on-valid : (size : ℕ) (mfm : Bool) → Valid (powerOn size mfm .machine)
+pub power-on-valid : (size : ℕ) (mfm : Bool) (chip : Chip) → Valid (powerOn size mfm chip .machine)
 unfolding powerOn lengthWithin
-power-on-valid size mfm =
+power-on-valid size mfm chip =
     by-cond (λ (s : Started). Valid (s .machine)) (lengthWithin size)
-    (λ e. fresh-valid size mfm e)
-    (λ e. fresh-valid shortestRow false refl)
+    (λ e. fresh-valid size mfm chip e)
+    (λ e. fresh-valid shortestRow false chip refl)
 
 -- ---- registers
 
@@ -83,7 +84,7 @@ load-valid m l number b v =
     by-cond (λ (q : Loaded). Valid (q .machine))
     (eqb (loadRefusal (validOf m) (busyIn (m .activity)) number b) 0)
     (λ e.
-    by-cond (λ (q : Loaded). Valid (q .machine)) (eqb number 0) (λ z. command-valid m l b (decodedOf b) v) (λ z. v))
+    by-cond (λ (q : Loaded). Valid (q .machine)) (eqb number 0) (λ z. command-valid m l b (decodedOf (m .chip) b) v) (λ z. v))
     (λ e. v)
 
 pub read-valid : (m : Machine) (l : Lines) (number : ℕ) → Valid m → Valid (readRegister m l number .machine)
@@ -125,7 +126,7 @@ run-valid m l limit row v =
 -- 2: "position not below L, L out of range, or a count above the largest its activity holds in any machine grown from
 -- power-on": so it is never a grown machine's number
 pub grown-valid : (m : Machine) → Grown m → validOf m ≡ true
-grown-valid m (power-on size mfm) = power-on-valid size mfm
+grown-valid m (power-on size mfm chip) = power-on-valid size mfm chip
 grown-valid m (load {m = before} g l number b h) = load-valid before l number b (grown-valid before g)
 grown-valid m (read {m = before} g l number) = read-valid before l number (grown-valid before g)
 grown-valid m (byte-time {m = before} g l row) = byte-time-valid before l row (grown-valid before g)

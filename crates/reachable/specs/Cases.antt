@@ -1,8 +1,9 @@
--- Document 01, "Cases": those marked P, "proved together, as one statement over one list". Assumes nothing.
+-- Document 01, "Cases": those marked P, "proved together, as one statement over one list", of both chips. Assumes nothing.
 use mathlib.Core.Bool.{Bool}
 use mathlib.Core.List.{List, [], _∷_}
 use Prim.Native.Nat.{ℕ}
 use Rattle.crc.specs.Crc.{crcOver, preset}
+use Rattle.command.specs.declared.Chip.{Chip}
 use Rattle.registers.specs.declared.Lines.{Lines}
 use Rattle.wd.specs.Machines.{freshMachine, powerOn}
 use Rattle.wd.specs.Loads.{loadRegister}
@@ -14,11 +15,11 @@ pub data Case : Type 0 where
   size : ℕ → Case
 
 -- What a case gives: the register "from FFFF"; the number of a command's load, 0 where it is accepted, into a machine at
--- power-on, whatever its density and the lines; the number of power-on.
-abbrev pub givenBy : Bool → Lines → Case → ℕ
-givenBy mfm l (field bytes) = crcOver preset bytes
-givenBy mfm l (command b) = loadRegister (freshMachine 2048 mfm) l 0 b .number
-givenBy mfm l (size length) = powerOn length mfm .number
+-- power-on, whatever its density, its chip and the lines; the number of power-on.
+abbrev pub givenBy : Bool → Chip → Lines → Case → ℕ
+givenBy mfm chip l (field bytes) = crcOver preset bytes
+givenBy mfm chip l (command b) = loadRegister (freshMachine 2048 mfm chip) l 0 b .number
+givenBy mfm chip l (size length) = powerOn length mfm chip .number
 
 -- "FE gives EF21, FB BF84, F8 8FE7; A1 A1 A1 CDB4, then FE B230; FE 00 00 01 00 D2C3."
 -- "80, C4 accepted; 9F, C3 refused 7."

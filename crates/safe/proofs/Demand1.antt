@@ -10,6 +10,7 @@ use lib.Dec.{leb, ltb, eqb}
 use lib.ListN.{length}
 use borrow.Author.Tests.{leb-true, leb-false, ltb-true, ltb-false, eqb-true, eqb-false}
 use Rattle.common.proofs.Cases.{by-cond, never, both, all}
+use Rattle.command.specs.declared.Chip.{Chip}
 use Rattle.command.specs.declared.Decoded.{Decoded}
 use Rattle.activity.specs.Limits.{busyIn}
 use Rattle.registers.specs.declared.Lines.{Lines}
@@ -36,10 +37,10 @@ use Rattle.safe.proofs.Refusals.{lowest, nothing, in-range, out-of-rang
 power-on-rows : {size : ℕ} (P : ℕ → Type 0) → (OutOfRange size → P 1) → (j : ℕ) → AtPowerOn size j → P j
 power-on-rows P one j (power-on-1 out) = one out
 
-pub power-on-safe : (size : ℕ) (mfm : Bool) → SafePowerOn size (powerOn size mfm)
+pub power-on-safe : (size : ℕ) (mfm : Bool) (chip : Chip) → SafePowerOn size chip (powerOn size mfm chip)
 unfolding powerOn lengthWithin
-power-on-safe size mfm =
-    by-cond (SafePowerOn size) (lengthWithin size)
+power-on-safe size mfm chip =
+    by-cond (SafePowerOn size chip) (lengthWithin size)
     (λ e.
     record {
       given = nothing (AtPowerOn size) (power-on-rows (λ j. ⊥) (in-range size e));
@@ -60,7 +61,7 @@ module _ (m : Machine) (l : Lines) (number b : ℕ) where
       → (Invalid m → P 2)
       → (NoSuchRegister number → P 5)
       → (WhileBusy m l number b → P 6)
-      → (number ≡ 0 → NoCommand b → P 7)
+      → (number ≡ 0 → NoCommand (m .chip) b → P 7)
       → (j : ℕ)
       → AtLoad m l number b j
       → P j
@@ -69,7 +70,7 @@ module _ (m : Machine) (l : Lines) (number b : ℕ) where
   load-rows P two five six seven j (load-6 c) = six c
   load-rows P two five six seven j (load-7 z c) = seven z c
 
-  commanded : {d : Decoded} → Takes (IsCommand b) d → number ≡ 0
+  commanded : {d : Decoded} → Takes (IsCommand (m .chip) b) d → number ≡ 0
       → (Invalid m → ⊥) → (NoSuchRegister number → ⊥) → (WhileBusy m l number b → ⊥)
       → Given (AtLoad m l number b) (commandAnswer m l b d .number)
   unfolding commandAnswer
@@ -113,7 +114,7 @@ module _ (m : Machine) (l : Lines) (number b : ℕ) where
           (load-rows (λ j. 6 ≤ j) (λ c. absurd (valid m v c)) (λ c. absurd (some c r)) (λ c. omega arith)
           (λ z c. omega arith)))
       by true v true r false g true z =
-          rw (v, r, g, z) (commanded (named b) (eqb-true number 0 z) (valid m v) (λ c. some c r) (free v g))
+          rw (v, r, g, z) (commanded (named (m .chip) b) (eqb-true number 0 z) (valid m v) (λ c. some c r) (free v g))
       by true v true r false g false z =
           rw (v, r, g, z)
           (nothing (AtLoad m l number b)

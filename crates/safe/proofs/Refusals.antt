@@ -10,7 +10,9 @@ use borrow.Author.Tests.{leb-true, ltb-true, ltb-false, eqb-true, eqb-false, le-
 use Rattle.common.proofs.Cases.{never, both, neither, all}
 use Rattle.scan.specs.Rows.{lengthWithin}
 use Rattle.scan.proofs.Rows.{within-least, within-most, row-without}
-use Rattle.command.specs.Commands.{decodedOf, within}
+use Rattle.command.specs.Commands.{decodedByBoth, decodedWithU, takenOr, decodedOf, within}
+use Rattle.command.specs.declared.Chip.{Chip}
+use Rattle.command.specs.declared.Chip.the-variants.{Wd1793, Wd1797}
 use Rattle.command.specs.declared.Command.{Command}
 use Rattle.command.specs.declared.Command.the-variants.{Restore, Seek, Step, StepIn, StepOut, ReadSector, WriteSector, ReadAddress, ReadTrack, WriteTrack, ForceInterrupt}
 use Rattle.command.specs.declared.Decoded.{Decoded}
@@ -22,7 +24,7 @@ use Rattle.wd.proofs.Valid.{Held}
 use Rattle.reachable.specs.Limits.{EachCount, Within}
 use Rattle.reachable.proofs.Valid.{Valid}
 use Rattle.reachable.proofs.Within.{valid-exactly}
-use Rattle.safe.specs.Demand1.{Between, OutOfRange, Invalid, position, range, count, Guarded, tr, sr, command, IsCommand, InTurn, Given}
+use Rattle.safe.specs.Demand1.{Between, OutOfRange, Invalid, position, range, count, Guarded, tr, sr, command, TakenByBoth, TakenWithU, IsCommand, InTurn, Given}
 
 -- ---- in turn
 
@@ -155,9 +157,9 @@ none-of {n} {j} {k} e (inl h) = eqb-false n j (neither (eqb n j) (eqb n k) e .0)
 none-of {n} {j} {k} e (inr h) = eqb-false n k (neither (eqb n j) (eqb n k) e .1) h
 
 -- "Commands: ..": document 01's list is the decoding's
-pub named : (b : ℕ) → Takes (IsCommand b) (decodedOf b)
-unfolding decodedOf
-named b =
+by-both : (b : ℕ) → Takes (TakenByBoth b) (decodedByBoth b)
+unfolding decodedByBoth
+by-both b =
     or-else Restore (within 0x00 0x0F b) between outside
     (or-else Seek (within 0x10 0x1F b) between outside
     (or-else Step (within 0x20 0x3F b) between outside
@@ -175,3 +177,22 @@ named b =
 
     uneven : (within 0x80 0x9E b && eqb (b % 2) 0) ≡ false → Between 0x80 0x9E b × (b % 2 ≡ 0) → ⊥
     uneven e (row, half) = let h = all (inside row) (eq-eqb (b % 2) 0 half) in never (cc)
+
+-- "C2, C6, E2, E6, F2, F6 become commands for this chip only"
+with-u : (chip : Chip) (b : ℕ) → Takes (TakenWithU chip b) (decodedWithU chip b)
+unfolding decodedWithU
+with-u Wd1793 b = refuses (λ none. none)
+with-u Wd1797 b =
+    or-else ReadAddress (eqb b 0xC2 || eqb b 0xC6) one-of none-of
+    (or-else ReadTrack (eqb b 0xE2 || eqb b 0xE6) one-of none-of
+    (at-last WriteTrack (eqb b 0xF2 || eqb b 0xF6) one-of none-of))
+
+either : {A B : Type 0} {d other : Decoded} → Takes A d → Takes B other → Takes (A ⊎ B) (takenOr other d)
+either (takes c x) rest = takes c (inl x)
+either (refuses none) (takes c x) = takes c (inr x)
+either (refuses none) (refuses none-else) = refuses (⊎-elim none none-else)
+
+-- what a chip takes is what both take, or else what it takes alone
+pub named : (chip : Chip) (b : ℕ) → Takes (IsCommand chip b) (decodedOf chip b)
+unfolding decodedOf
+named chip b = either (by-both b) (with-u chip b)

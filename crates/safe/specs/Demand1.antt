@@ -1,4 +1,4 @@
--- Demand 1, "Safe on every input": document 01's table "Numbers handed back", for the calls of the controller.
+-- Demand 1, "Safe on every input": document 01's table "Numbers handed back", for the calls of the controller, on both chips.
 -- Assumes nothing.
 use mathlib.Core.Path.{_≡_}
 use mathlib.Core.Bool.{true, false}
@@ -7,6 +7,8 @@ use mathlib.Core.Logic.{_⊎_, _↔_}
 use Prim.Native.Nat.{ℕ, suc, _%_, _≤_, _<_}
 use lib.ListN.{length}
 use Rattle.common.specs.Bits.{bitOf}
+use Rattle.command.specs.declared.Chip.{Chip}
+use Rattle.command.specs.declared.Chip.the-variants.{Wd1793, Wd1797}
 use Rattle.registers.specs.declared.Lines.{Lines}
 use Rattle.wd.specs.declared.Machine.{Machine}
 use Rattle.wd.specs.declared.Started.{Started}
@@ -61,8 +63,8 @@ pub record WhileBusy (m : Machine) (l : Lines) (number b : ℕ) : Type 0 where
 
 -- "00-0F Restore, 10-1F Seek, 20-3F Step, 40-5F Step-in, 60-7F Step-out, all Type I; even 80-9E Read Sector; A0-BF Write
 -- Sector; C0, C4 Read Address; E0, E4 Read Track; F0, F4 Write Track; D0-DF Force Interrupt."
-abbrev pub IsCommand : ℕ → Type 0
-IsCommand b =
+abbrev pub TakenByBoth : ℕ → Type 0
+TakenByBoth b =
     Between 0x00 0x0F b
     ⊎ Between 0x10 0x1F b
     ⊎ Between 0x20 0x3F b
@@ -75,9 +77,17 @@ IsCommand b =
     ⊎ ((b ≡ 0xF0) ⊎ (b ≡ 0xF4))
     ⊎ Between 0xD0 0xDF b
 
--- 7: "the byte is no command"
-abbrev pub NoCommand : ℕ → Type 0
-NoCommand b = IsCommand b → ⊥
+-- "so C2, C6, E2, E6, F2, F6 become commands for this chip only"
+abbrev pub TakenWithU : Chip → ℕ → Type 0
+TakenWithU Wd1793 b = ⊥
+TakenWithU Wd1797 b = ((b ≡ 0xC2) ⊎ (b ≡ 0xC6)) ⊎ ((b ≡ 0xE2) ⊎ (b ≡ 0xE6)) ⊎ ((b ≡ 0xF2) ⊎ (b ≡ 0xF6))
+
+abbrev pub IsCommand : Chip → ℕ → Type 0
+IsCommand chip b = TakenByBoth b ⊎ TakenWithU chip b
+
+-- 7: "the byte is no command", by chip
+abbrev pub NoCommand : Chip → ℕ → Type 0
+NoCommand chip b = IsCommand chip b → ⊥
 
 -- A run comes to its byte time n, counted from 0: those before it are done, and none of them ends with DRQ or INTRQ on.
 pub record ComesTo (m : Machine) (l : Lines) (limit : ℕ) (row : List ℕ) (n : ℕ) : Type 0 where
@@ -94,7 +104,7 @@ pub data AtLoad (m : Machine) (l : Lines) (number b : ℕ) : ℕ → Type 0 wher
   load-2 : Invalid m → AtLoad m l number b 2
   load-5 : NoSuchRegister number → AtLoad m l number b 5
   load-6 : WhileBusy m l number b → AtLoad m l number b 6
-  load-7 : number ≡ 0 → NoCommand b → AtLoad m l number b 7
+  load-7 : number ≡ 0 → NoCommand (m .chip) b → AtLoad m l number b 7
 
 pub data AtRead (m : Machine) (number : ℕ) : ℕ → Type 0 where
   read-2 : Invalid m → AtRead m number 2
@@ -126,10 +136,10 @@ Given Row number = InTurn (λ t. t) Row number
 
 -- ---- each call: its number, and what it hands back where that is not 0
 
--- "power-on FM machine of 2,048"
-pub record SafePowerOn (size : ℕ) (r : Started) : Type 0 where
+-- "power-on FM machine of 2,048", of the chip that was named
+pub record SafePowerOn (size : ℕ) (chip : Chip) (r : Started) : Type 0 where
   pub given : Given (AtPowerOn size) (r .number)
-  pub refused : (r .number ≡ 0 → ⊥) → r .machine ≡ powerOn 2048 false .machine
+  pub refused : (r .number ≡ 0 → ⊥) → r .machine ≡ powerOn 2048 false chip .machine
 
 -- "as given"
 pub record SafeLoad (m : Machine) (l : Lines) (number b : ℕ) (r : Loaded) : Type 0 where

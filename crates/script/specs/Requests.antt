@@ -9,9 +9,10 @@ use Rattle.script.specs.declared.requests.Request.the-variants.{Nothing,
 use Rattle.script.specs.declared.requests.Call.the-variants.{Load, Read, ByteTime, Run, SetPosition, SetLength}
 use Rattle.script.specs.declared.requests.Task.the-variants.{SetCount, Fill, SetCells, Show, Swap}
 
--- "A register number or a byte above FF, drive lines above F and a density above 1 are errors of the script"
-unfoldable pub powerOnRequest : ℕ → ℕ → Request
-powerOnRequest density length = cond (ltb 1 density) Bad (PowerOn (eqb density 1) length)
+-- "A register number or a byte above FF, drive lines above F and a density or a chip above 1 are errors of the script"
+unfoldable pub powerOnRequest : ℕ → ℕ → ℕ → Request
+powerOnRequest density length chip =
+    cond (ltb 1 density) Bad (cond (ltb 1 chip) Bad (PowerOn (eqb density 1) length (eqb chip 1)))
 
 unfoldable pub linesRequest : ℕ → Request
 linesRequest bits = cond (ltb 0xF bits) Bad (SetLines bits)
@@ -47,13 +48,17 @@ ofOne letter a =
 
 unfoldable pub ofTwo : ℕ → ℕ → ℕ → Request
 ofTwo letter a b =
-    cond (eqb letter 0x50) (powerOnRequest a b)
+    cond (eqb letter 0x50) (powerOnRequest a b 0)
     (cond (eqb letter 0x57) (loadRequest a b)
     (cond (eqb letter 0x56) (Rows (Show a b))
     Bad))
 
 unfoldable pub ofThree : ℕ → ℕ → ℕ → ℕ → Request
-ofThree letter a b c = cond (eqb letter 0x46) (Rows (Fill a b c)) (cond (eqb letter 0x51) (viewRequest a b c) Bad)
+ofThree letter a b c =
+    cond (eqb letter 0x46) (Rows (Fill a b c))
+    (cond (eqb letter 0x50) (powerOnRequest a b c)
+    (cond (eqb letter 0x51) (viewRequest a b c)
+    Bad))
 
 -- "an unknown letter, a missing or extra or too large number": an error of the script
 unfoldable pub requestOf : Line → Request

@@ -26,24 +26,39 @@ pub enum Task {
 pub enum Request {
     // A line with nothing in it but a comment.
     Nothing,
-    PowerOn { mfm: bool, length: u16 },
-    SetLines { bits: u8 },
+    PowerOn {
+        mfm: bool,
+        length: u16,
+        wd1797: bool,
+    },
+    SetLines {
+        bits: u8,
+    },
     Controller(Call),
     Rows(Task),
     // Of the viewer.
-    View { mfm: bool, track: u8, sector: u8 },
+    View {
+        mfm: bool,
+        track: u8,
+        sector: u8,
+    },
     Bad,
 }
 
-fn power_on(density: u16, length: u16) -> Request
-    ensures { λ r. ⌜ r ≡ powerOnRequest density length ⌝ }
+// Chip 0 is the WD1793, chip 1 the WD1797.
+fn power_on(density: u16, length: u16, chip: u16) -> Request
+    ensures { λ r. ⌜ r ≡ powerOnRequest density length chip ⌝ }
 {
     if 1 < density {
+        return Request::Bad;
+    }
+    if 1 < chip {
         return Request::Bad;
     }
     Request::PowerOn {
         mfm: density == 1,
         length,
+        wd1797: chip == 1,
     }
 }
 
@@ -140,7 +155,7 @@ fn of_two(letter: u8, a: u16, b: u16) -> Request
     ensures { λ r. ⌜ r ≡ ofTwo letter a b ⌝ }
 {
     match letter {
-        b'P' => power_on(a, b),
+        b'P' => power_on(a, b, 0),
         b'W' => load(a, b),
         b'V' => Request::Rows(Task::Show { place: a, count: b }),
         _ => Request::Bad,
@@ -156,6 +171,7 @@ fn of_three(letter: u8, a: u16, b: u16, c: u16) -> Request
             count: b,
             cell: c,
         }),
+        b'P' => power_on(a, b, c),
         b'Q' => view(a, b, c),
         _ => Request::Bad,
     }

@@ -9,10 +9,9 @@ use Rattle.scan.specs.declared.Scan.the-variants.{Gap}
 use Rattle.scan.specs.declared.Heard.{Heard}
 use Rattle.scan.specs.declared.Heard.the-variants.{On, Whole}
 use Rattle.command.specs.Commands.{jobOf}
-use Rattle.command.specs.Bits.{sideAsked}
 use Rattle.command.specs.declared.SideAsked.{SideAsked}
 use Rattle.command.specs.declared.SideAsked.the-variants.{Any, Only}
-use Rattle.command.specs.Sizes.{sizeOf}
+use Rattle.command.specs.Sizes.{fieldSize}
 use Rattle.command.specs.declared.Order.{Order}
 use Rattle.command.specs.declared.Job.{Job}
 use Rattle.command.specs.declared.Job.the-variants as job
@@ -27,15 +26,14 @@ use Rattle.activity.specs.declared.Deed.the-variants.{Nothing, Matched, NotFoun
 unfoldable pub pulsesSeen : ℕ → Bool → ℕ
 pulsesSeen seen index = cond index (cond (ltb seen 5) (seen + 1) 5) seen
 
--- "with C, its side is S": the side that is asked, where one is
+-- "with C, its side is S", on the 1797 "the ID's side must equal U": the side that is asked, where one is
 unfoldable pub sideMatches : ℕ → SideAsked → Bool
 sideMatches side Any = true
 sideMatches side (Only only) = eqb side only
 
--- "its track is TR and, for Type II, its sector is SR and, with C, its side is S"
+-- "its track is TR and, for Type II, its sector is SR and, with C, its side is S": the order has the side
 unfoldable pub sectorMatches : Order → Seen → Id → Bool
-sectorMatches o s id =
-    eqb (id .track) (s .tr) && eqb (id .sector) (s .sr) && sideMatches (id .side) (sideAsked (o .byte))
+sectorMatches o s id = eqb (id .track) (s .tr) && eqb (id .sector) (s .sr) && sideMatches (id .side) (o .side)
 
 -- "An ID matches if its track is TR and, for Type II, its sector is SR and, with C, its side is S."
 unfoldable pub matchesFor : Order → Seen → Id → Job → Bool
@@ -49,14 +47,14 @@ matchesFor o s id job.WriteTrack = false
 
 -- after a good match: a verify is over, a read waits for its data mark, of which no A1 has passed yet ("in MFM its three A1s
 -- too"), a write makes its field; a data field has two CRC cells, and a written one an FF after them
-unfoldable pub afterMatch : ℕ → Job → Activity
-afterMatch length job.Nothing = Idle
-afterMatch length job.Verify = Idle
-afterMatch length job.ReadSector = Window (sizeOf length + 2) 0 0
-afterMatch length job.WriteSector = Preamble (sizeOf length + 3) 0
-afterMatch length job.ReadAddress = Idle
-afterMatch length job.ReadTrack = Idle
-afterMatch length job.WriteTrack = Idle
+unfoldable pub afterMatch : Bool → ℕ → Job → Activity
+afterMatch ibm length job.Nothing = Idle
+afterMatch ibm length job.Verify = Idle
+afterMatch ibm length job.ReadSector = Window (fieldSize ibm length + 2) 0 0
+afterMatch ibm length job.WriteSector = Preamble (fieldSize ibm length + 3) 0
+afterMatch ibm length job.ReadAddress = Idle
+afterMatch ibm length job.ReadTrack = Idle
+afterMatch ibm length job.WriteTrack = Idle
 
 -- a search with no part of an ID in hand: where it begins, and after a whole ID, its pulses counted on
 abbrev pub afresh : ℕ → Activity
@@ -70,7 +68,9 @@ afterRecord multiple = cond multiple (afresh 0) Idle
 unfoldable pub idFound : Order → Seen → ℕ → Id → Act
 idFound o s pulses id =
     cond (matchesFor o s id (jobOf (o .command)))
-    (cond (id .good) (pass s (afterMatch (id .length) (jobOf (o .command))) (Matched false)) (pass s (afresh pulses) (Matched true)))
+    (cond (id .good)
+    (pass s (afterMatch (o .ibm) (id .length) (jobOf (o .command))) (Matched false))
+    (pass s (afresh pulses) (Matched true)))
     (pass s (afresh pulses) Nothing)
 
 unfoldable pub searchStep : Order → Seen → ℕ → Heard → Act

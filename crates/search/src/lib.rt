@@ -35,9 +35,8 @@ fn side_matches(side: u8, asked: SideAsked) -> bool
 fn sector_matches(o: Order, s: Seen, id: Id) -> bool
     ensures { λ r. ⌜ r ≡ sectorMatches o s id ⌝ }
 {
-    (id.track == s.tr)
-        & (id.sector == s.sr)
-        & side_matches(id.side, command::bits::side_asked(o.byte))
+    let side = o.side;
+    (id.track == s.tr) & (id.sector == s.sr) & side_matches(id.side, side)
 }
 
 fn matches(o: Order, s: Seen, id: Id, job: Job) -> bool
@@ -55,12 +54,12 @@ fn matches(o: Order, s: Seen, id: Id, job: Job) -> bool
 }
 
 // What comes after a good match.
-fn served(job: Job, length: u8) -> Activity
-    ensures { λ r. ⌜ r ≡ afterMatch length job ⌝ }
+fn served(job: Job, ibm: bool, length: u8) -> Activity
+    ensures { λ r. ⌜ r ≡ afterMatch ibm length job ⌝ }
 {
     match job {
-        Job::ReadSector => Activity::Window(command::sizes::size(length) + 2, 0, 0),
-        Job::WriteSector => Activity::Preamble(command::sizes::size(length) + 3, 0),
+        Job::ReadSector => Activity::Window(command::sizes::field_size(ibm, length) + 2, 0, 0),
+        Job::WriteSector => Activity::Preamble(command::sizes::field_size(ibm, length) + 3, 0),
         _ => Activity::Idle,
     }
 }
@@ -73,7 +72,7 @@ fn found(o: Order, s: Seen, pulses: u8, id: Id) -> Act
     if matches(o, s, id, job) {
         if id.good {
             return Act {
-                next: served(job, id.length),
+                next: served(job, o.ibm, id.length),
                 deed: Deed::Matched(false),
                 cell: s.cell,
             };

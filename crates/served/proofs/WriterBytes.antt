@@ -10,9 +10,8 @@ use native.Mathlib.Omega.{arith}
 use lib.Dec.{leb, eqb}
 use borrow.Author.Tests.{leb-true, le-leb, lt-leb, eq-eqb, ne-eqb}
 use Rattle.command.specs.Commands.{classOf}
-use Rattle.command.specs.Sizes.{sizes, sizeOf}
 use Rattle.command.specs.declared.Command.the-variants.{WriteSector}
-use Rattle.command.proofs.Tables.{of-four}
+use Rattle.command.proofs.Tables.{field-size-some}
 use Rattle.activity.specs.declared.Deed.{Deed}
 use Rattle.activity.specs.declared.Deed.the-variants.{Nothing, Ask}
 use Rattle.writing.specs.Writing.{markPlace, preambleDeed}
@@ -58,10 +57,6 @@ asks-dr r n = by (eqb n 2)
     by true = refl
     by false = refl
 
-size-some : (length : ℕ) → 0 < sizeOf length
-unfolding sizeOf
-size-some length = leb-true 1 (sizeOf length) (of-four (leb 1) sizes refl length)
-
 module _ (s : Session) (k : Commands s) (serves : WriterServes s) where
   abbrev h : Host
   h = s .writer
@@ -106,7 +101,7 @@ module _ (s : Session) (k : Commands s) (serves : WriterServes s) where
   valid = load-valid (s .machine) (s .lines) 0 (s .byte) (given-valid (write.given s k))
 
   some : 0 < size
-  some = size-some _
+  some = field-size-some _ _
 
   far : 12 ≤ mark
   far = let n = numbers (s .machine .mfm) in omega (arith, n .kept-first, n .mark-last, n .some)

@@ -8,6 +8,7 @@ use Rattle.registers.specs.declared.Lines.{Lines}
 use Rattle.wd.specs.declared.Machine.{Machine}
 use Rattle.picture.specs.Reader.{readerAnswer, readerRoom}
 use Rattle.viewer.specs.Views.{placeOf, partCells, partStart, numberOf}
+use Rattle.command.specs.declared.Chip.{Chip}
 use Rattle.wd.specs.Machines.{powerOn}
 use Rattle.wd.specs.Reads.{readRegister}
 use Rattle.wd.specs.Loads.{loadRegister}
@@ -43,8 +44,8 @@ module _ (m : Machine) (l : Lines) where
         after = refl;
       }
 
-pub a-power-on : (size : ℕ) (mfm : Bool) → PowerOnCall size mfm (powerOn size mfm)
-a-power-on size mfm = record { lifetimes = tt; exit = (size, (mfm, tt)); told = refl }
+pub a-power-on : (size : ℕ) (mfm : Bool) (chip : Chip) → PowerOnCall size mfm chip (powerOn size mfm chip)
+a-power-on size mfm chip = record { lifetimes = tt; exit = (size, (mfm, (chip, tt))); told = refl }
 
 pub a-picture : (bytes room : List ℕ) → PictureCall bytes room (readerAnswer bytes (length room)) (readerRoom bytes room)
 a-picture bytes room =

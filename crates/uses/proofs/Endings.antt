@@ -172,7 +172,7 @@ taken c = ap (λ (q : Loaded). q .number) (sym (c .call .told)) ∙ c .number
 pub since-loaded : (c : Accepted) (h : Host) → since c ≡ loaded (sceneOf c h)
 since-loaded c h = ap (λ (q : Loaded). deskOf (q .machine) (c .row)) (c .call .told)
 
-module _ (c : Accepted) (command : Command) (is : decodedOf (c .byte) ≡ Taken command)
+module _ (c : Accepted) (command : Command) (is : decodedOf (c .machine .chip) (c .byte) ≡ Taken command)
     (other : command ≡ ForceInterrupt → ⊥) where
   module _ (course : Course c) (h : Host) (rest : Quiet h (course .after)) where
     abbrev host : Host

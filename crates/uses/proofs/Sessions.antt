@@ -46,7 +46,7 @@ module _ (t : WriteThenRead) where
   pub writer-alone : (n : ℕ) → AloneUntil (s .writer) (begun s) n
   writer-alone n = subst (λ (d : Desk). AloneUntil (s .writer) d n) begun-is (λ k l. writer-quiet k)
 
-  module _ (command : Command) (is : decodedOf (t .write .byte) ≡ Taken command) (other : command ≡ ForceInterrupt → ⊥) where
+  module _ (command : Command) (is : decodedOf (t .write .machine .chip) (t .write .byte) ≡ Taken command) (other : command ≡ ForceInterrupt → ⊥) where
     pub write-ends : EndsAt (s .writer) (begun s) (s .written)
     write-ends =
         subst (λ (d : Desk). EndsAt (s .writer) d (s .written)) begun-is
@@ -90,7 +90,7 @@ module _ (t : WriteThenRead) where
   pub reader-alone : (n : ℕ) → AloneUntil (s .reader) (resumed s) n
   reader-alone n = subst (λ (d : Desk). AloneUntil (s .reader) d n) resumed-is (λ k l. reader-quiet k)
 
-  module _ (command : Command) (is : decodedOf (t .read .byte) ≡ Taken command) (other : command ≡ ForceInterrupt → ⊥) where
+  module _ (command : Command) (is : decodedOf (t .read .machine .chip) (t .read .byte) ≡ Taken command) (other : command ≡ ForceInterrupt → ⊥) where
     pub read-ends : EndsAt (s .reader) (resumed s) (s .read)
     read-ends =
         subst (λ (d : Desk). EndsAt (s .reader) d (s .read)) resumed-is

@@ -6,6 +6,7 @@ use mathlib.Core.List.{List}
 use Prim.Native.Nat.{ℕ}
 use contract.Lifetimes.{Lfts}
 use denote.Ref.{now}
+use Rattle.command.specs.declared.Chip.{Chip}
 use Rattle.activity.specs.declared.Activity.the-variants.{Idle}
 use Rattle.registers.specs.declared.Lines.{Lines}
 use Rattle.wd.specs.declared.Machine.{Machine}
@@ -19,16 +20,18 @@ use Rattle.wd.proofs as wd
 use Rattle.picture.proofs as picture
 use Rattle.viewer.proofs as viewer
 
-pub record PowerOnCall (length : ℕ) (mfm : Bool) (r : Started) : Type 0 where
+pub record PowerOnCall (length : ℕ) (mfm : Bool) (chip : Chip) (r : Started) : Type 0 where
   pub lifetimes : Lfts 0
   pub exit : _
-  pub told : wd.Machine.power_on.Reads.Learnt lifetimes (length, (mfm, tt)) r exit
+  pub told : wd.Machine.power_on.Reads.Learnt lifetimes (length, (mfm, (chip, tt))) r exit
 
 -- "It gives: position 0, track register (TR) 0, sector register (SR) 1, data register (DR) 0, direction out, head unloaded, idle,
--- Ready last seen off, DRQ and INTRQ off, Type I status."
-pub record PoweredOn (size : ℕ) (mfm : Bool) (m : Machine) : Type 0 where
+-- Ready last seen off, DRQ and INTRQ off, Type I status." "Power-on names the chip." The side output is 0.
+pub record PoweredOn (size : ℕ) (mfm : Bool) (chip : Chip) (m : Machine) : Type 0 where
   pub ring : m .ring ≡ record { length = size; position = 0 }
   pub density : m .mfm ≡ mfm
+  pub chip-named : m .chip ≡ chip
+  pub side-output : m .sso ≡ false
   pub regs : m .regs ≡ record { tr = 0; sr = 1; dr = 0 }
   pub head : m .head ≡ record { loaded = false; inward = false }
   pub idle : m .activity ≡ Idle

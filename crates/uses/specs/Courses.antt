@@ -6,6 +6,8 @@ use mathlib.Core.Logic.{_⊎_}
 use Prim.Native.Nat.{ℕ, _+_, _*_, _%_, _≤_}
 use lib.ListN.{length}
 use Rattle.common.specs.Bits.{bitOf}
+use Rattle.command.specs.declared.Chip.{Chip}
+use Rattle.command.specs.declared.Chip.the-variants.{Wd1797}
 use Rattle.registers.specs.declared.Lines.{Lines}
 use Rattle.wd.specs.declared.Machine.{Machine}
 use Rattle.wd.specs.declared.Loaded.{Loaded}
@@ -125,16 +127,20 @@ pub record SingleWrite (b : ℕ) : Type 0 where
   pub last : b ≤ 0xBF
   pub single : bitOf b 4 ≡ false
 
--- any of the commands that read: "even 80-9E Read Sector; .. C0, C4 Read Address; E0, E4 Read Track"
-pub data ReadByte (b : ℕ) : Type 0 where
-  read-sector : 0x80 ≤ b → b ≤ 0x9E → b % 2 ≡ 0 → ReadByte b
-  read-address : (b ≡ 0xC0) ⊎ (b ≡ 0xC4) → ReadByte b
-  read-track : (b ≡ 0xE0) ⊎ (b ≡ 0xE4) → ReadByte b
+-- any of the commands that read: "even 80-9E Read Sector; .. C0, C4 Read Address; E0, E4 Read Track"; "C2, C6, E2, E6, F2, F6 become
+-- commands for this chip only"
+pub data ReadByte (chip : Chip) (b : ℕ) : Type 0 where
+  read-sector : 0x80 ≤ b → b ≤ 0x9E → b % 2 ≡ 0 → ReadByte chip b
+  read-address : (b ≡ 0xC0) ⊎ (b ≡ 0xC4) → ReadByte chip b
+  read-track : (b ≡ 0xE0) ⊎ (b ≡ 0xE4) → ReadByte chip b
+  read-address-with-u : chip ≡ Wd1797 → (b ≡ 0xC2) ⊎ (b ≡ 0xC6) → ReadByte chip b
+  read-track-with-u : chip ≡ Wd1797 → (b ≡ 0xE2) ⊎ (b ≡ 0xE6) → ReadByte chip b
 
 -- any of those that write: "A0-BF Write Sector; .. F0, F4 Write Track"
-pub data WriteByte (b : ℕ) : Type 0 where
-  write-sector : 0xA0 ≤ b → b ≤ 0xBF → WriteByte b
-  write-track : (b ≡ 0xF0) ⊎ (b ≡ 0xF4) → WriteByte b
+pub data WriteByte (chip : Chip) (b : ℕ) : Type 0 where
+  write-sector : 0xA0 ≤ b → b ≤ 0xBF → WriteByte chip b
+  write-track : (b ≡ 0xF0) ⊎ (b ≡ 0xF4) → WriteByte chip b
+  write-track-with-u : chip ≡ Wd1797 → (b ≡ 0xF2) ⊎ (b ≡ 0xF6) → WriteByte chip b
 
 -- ---- as long as it lasts
 

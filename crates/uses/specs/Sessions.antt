@@ -4,6 +4,8 @@ use mathlib.Core.Bool.{Bool, true, false, not, cond, _&&_, _||_}
 use mathlib.Core.List.{List, [], _∷_, _++_}
 use Prim.Native.Nat.{ℕ, _+_}
 use lib.Dec.{eqb}
+use Rattle.scan.specs.Streams.{idFrom}
+use Rattle.fields.specs.Rings.{cellsOf}
 use Rattle.hosts.specs.Hosts.{Desk}
 use Rattle.hosts.specs.Bytes.{taken}
 use Rattle.exact.specs.Demand2.{Session, begun}
@@ -42,6 +44,10 @@ sessionOf t =
 -- the bytes that the write took, one for each data cell
 abbrev pub bytesTaken : WriteThenRead → List ℕ
 bytesTaken t = taken (sessionOf t .writer) (begun (sessionOf t)) (sessionOf t .written)
+
+-- the length code of the ID that stands from cell p on
+abbrev pub lengthCode : WriteThenRead → ℕ → ℕ
+lengthCode t p = idFrom (t .write .machine .mfm) (cellsOf (t .write .row)) p .length
 
 -- ---- the bytes that a host sees
 

@@ -47,7 +47,9 @@ abbrev movedOf : Machine → Bool → Activity → Machine
 movedOf m ready a =
     record {
       ring = record { length = m .ring .length; position = m .ring .position + 1 };
+      chip = m .chip;
       mfm = m .mfm;
+      sso = m .sso;
       regs = m .regs;
       wires = m .wires;
       flags = m .flags;
@@ -195,7 +197,9 @@ module _ (l : Lines) (ran : Ran) (row : List ℕ) (quiet : Quiet l ran row) (lim
       ap
       (λ (p : ℕ). record {
         ring = record { length = base .ring .length; position = p };
+        chip = base .chip;
         mfm = base .mfm;
+        sso = base .sso;
         regs = base .regs;
         wires = base .wires;
         flags = base .flags;

@@ -1,4 +1,5 @@
--- Loading a register, and what an accepted command does at once: document 01, "Registers and commands". Assumes nothing.
+-- Loading a register, and what an accepted command does at once: document 01, "Registers and commands", and document 02, i. Of all
+-- calls the load alone asks the chip. Assumes nothing.
 use mathlib.Core.Bool.{cond, not, _&&_}
 use Prim.Native.Nat.{ℕ}
 use lib.Dec.{eqb}
@@ -14,7 +15,7 @@ use Rattle.wd.specs.declared.Loaded.{Loaded}
 use Rattle.wd.specs.Machines.{validOf}
 use Rattle.wd.specs.Reads.{withBus}
 use Rattle.registers.specs.Registers.{loadRefusal, loadRegs, loadWires}
-use Rattle.accepting.specs.Accepting.{heldBy, endsAtOnce, asksFirst, beginRegs, beginWires, beginFlags, beginHead, beginActivity}
+use Rattle.accepting.specs.Accepting.{heldBy, endsAtOnce, asksFirst, beginRegs, beginWires, beginFlags, beginHead, beginActivity, beginSide}
 
 -- ---- an accepted command
 
@@ -22,14 +23,16 @@ unfoldable pub commandBegun : Machine → Lines → ℕ → Command → Machine
 commandBegun m l b command =
     record {
       ring = m .ring;
+      chip = m .chip;
       mfm = m .mfm;
+      sso = beginSide (m .sso) (m .chip) b (classOf command);
       regs = beginRegs (m .regs) command;
       wires =
           beginWires (m .wires) (asksFirst command && not (endsAtOnce command l)) (endsAtOnce command l) b (classOf command);
       flags = beginFlags (m .flags) (heldBy command l) (busyIn (m .activity)) (classOf command);
       head = beginHead (m .head) (endsAtOnce command l) b (classOf command);
       past = m .past;
-      order = orderOf command b (m .head .inward);
+      order = orderOf (m .chip) command b (m .head .inward);
       activity = beginActivity (endsAtOnce command l) (m .mfm) b (classOf command);
     }
 
@@ -42,6 +45,6 @@ commandAnswer m l b NoCommand = record { number = decodeRefusal NoCommand; machi
 unfoldable pub loadRegister : Machine → Lines → ℕ → ℕ → Loaded
 loadRegister m l number b =
     cond (eqb (loadRefusal (validOf m) (busyIn (m .activity)) number b) 0)
-    (cond (eqb number 0) (commandAnswer m l b (decodedOf b))
+    (cond (eqb number 0) (commandAnswer m l b (decodedOf (m .chip) b))
     (record { number = 0; machine = withBus m (loadRegs (m .regs) number b) (loadWires (m .wires) number) }))
     (record { number = loadRefusal (validOf m) (busyIn (m .activity)) number b; machine = m })

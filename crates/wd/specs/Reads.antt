@@ -25,7 +25,9 @@ abbrev pub withBus : Machine → Regs → Wires → Machine
 withBus m r w =
     record {
       ring = m .ring;
+      chip = m .chip;
       mfm = m .mfm;
+      sso = m .sso;
       regs = r;
       wires = w;
       flags = m .flags;

@@ -12,7 +12,9 @@ unfoldable pub afterStretch : Machine → ℕ → Bool → Machine
 afterStretch m passed ready =
     record {
       ring = record { length = m .ring .length; position = m .ring .position + passed };
+      chip = m .chip;
       mfm = m .mfm;
+      sso = m .sso;
       regs = m .regs;
       wires = m .wires;
       flags = m .flags;

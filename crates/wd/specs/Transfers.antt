@@ -28,7 +28,9 @@ unfoldable pub afterTransfer : Machine → Bool → ℕ → Activity → Machine
 afterTransfer m ready dr next =
     record {
       ring = ringNext (m .ring);
+      chip = m .chip;
       mfm = m .mfm;
+      sso = m .sso;
       regs = record { tr = m .regs .tr; sr = m .regs .sr; dr = dr };
       wires = record {
         drq = true;

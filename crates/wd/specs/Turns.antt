@@ -30,7 +30,9 @@ actApplied m a ready index =
     record {
       machine = record {
         ring = ringNext (m .ring);
+        chip = m .chip;
         mfm = m .mfm;
+        sso = m .sso;
         regs = effectOf (partsOf m) (a .deed) .regs;
         wires = record {
           drq = effectOf (partsOf m) (a .deed) .drq;

@@ -1,4 +1,4 @@
-// The controller: registers, wires, flags, head, ring and activity of a WD1793, and the calls that a host makes of it.
+// The controller: registers, wires, flags, head, ring and activity of a WD1793 or WD1797, and the calls that a host makes of it.
 ghost use mathlib.Core.Path.{_≡_};
 ghost use Prim.Native.Nat.{_+_, _≤_, _<_};
 ghost use lib.ListN.{length};
@@ -12,9 +12,11 @@ ghost use Rattle.wd.specs.Transfers.{transferNow, afterTransfer, oneByte
 ghost use Rattle.wd.specs.Rows.{rowRefusal, refusedAt, doneBy, byteTime, byteTimeRow, stopsAt, countedOf, ranTo, emptyRun, runOf, runRow, furtherOf};
 use activity::Act;
 use activity::Activity;
+use command::Chip;
 use command::Command;
 use command::Decoded;
 use command::Order;
+use command::SideAsked;
 use effects::Parts;
 use registers::Conditions;
 use registers::Flags;
@@ -34,7 +36,10 @@ use transfer::Transfer;
 // The ring that a refused power-on gives.
 const SHORTEST: u16 = scan::SHORTEST_ROW as u16;
 
+// The chip, the ring's length and the density are those of power-on. SSO is the side output, which a WD1793 leaves off.
 pub struct Machine {
+    pub chip: Chip,
+    pub sso: bool,
     pub ring: Ring,
     pub mfm: bool,
     pub regs: Regs,
@@ -252,15 +257,17 @@ fn run_on(start: Ran, lines: Lines, limit: u16, row: &mut [u16]) -> Ran
 }
 
 impl Machine {
-    fn fresh(length: u16, mfm: bool) -> Machine
-        ensures { λ r. ⌜ r ≡ freshMachine length mfm ⌝ }
+    fn fresh(length: u16, mfm: bool, chip: Chip) -> Machine
+        ensures { λ r. ⌜ r ≡ freshMachine length mfm chip ⌝ }
     {
         Machine {
             ring: Ring {
                 length,
                 position: 0,
             },
+            chip,
             mfm,
+            sso: false,
             regs: Regs {
                 tr: 0,
                 sr: 1,
@@ -283,24 +290,26 @@ impl Machine {
                 command: Command::ForceInterrupt,
                 byte: 0,
                 inward: false,
+                side: SideAsked::Any,
+                ibm: true,
             },
             activity: Activity::Idle,
         }
     }
 
-    // The machine at power-on, for a row of so many cells and a density.
-    pub fn power_on(length: u16, mfm: bool) -> Started
-        ensures { λ r. ⌜ r ≡ powerOn length mfm ⌝ }
+    // The machine at power-on, for a row of so many cells, a density and a chip.
+    pub fn power_on(length: u16, mfm: bool, chip: Chip) -> Started
+        ensures { λ r. ⌜ r ≡ powerOn length mfm chip ⌝ }
     {
         if scan::length_within(length as usize) {
             Started {
                 number: 0,
-                machine: Machine::fresh(length, mfm),
+                machine: Machine::fresh(length, mfm, chip),
             }
         } else {
             Started {
                 number: 1,
-                machine: Machine::fresh(SHORTEST, false),
+                machine: Machine::fresh(SHORTEST, false, chip),
             }
         }
     }
@@ -366,6 +375,7 @@ impl Machine {
         ensures { λ r. ⌜ r ≡ commandBegun self lines byte command ⌝ }
     {
         let ring = self.ring;
+        let chip = self.chip;
         let regs = self.regs;
         let wires = self.wires;
         let flags = self.flags;
@@ -377,7 +387,9 @@ impl Machine {
         let ends = held | !lines.ready;
         Machine {
             ring,
+            chip,
             mfm: self.mfm,
+            sso: accepting::begin_side(self.sso, chip, byte, class),
             regs: accepting::begin_regs(regs, command),
             wires: accepting::begin_wires(
                 wires,
@@ -389,7 +401,7 @@ impl Machine {
             flags: accepting::begin_flags(flags, held, activity::busy(activity), class),
             head: accepting::begin_head(head, ends, byte, class),
             past,
-            order: command::order_of(command, byte, head.inward),
+            order: command::order_of(chip, command, byte, head.inward),
             activity: accepting::begin_activity(ends, self.mfm, byte, class),
         }
     }
@@ -422,7 +434,8 @@ impl Machine {
             };
         }
         if number == 0 {
-            return self.command(lines, byte, command::decode(byte));
+            let chip = self.chip;
+            return self.command(lines, byte, command::decode(chip, byte));
         }
         let regs = self.regs;
         let wires = self.wires;
@@ -450,6 +463,7 @@ impl Machine {
     {
         let next = act.next;
         let ring = self.ring;
+        let chip = self.chip;
         let wires = self.wires;
         let past = self.past;
         let conditions = self.conditions();
@@ -467,7 +481,9 @@ impl Machine {
         Turn {
             machine: Machine {
                 ring: rings::next(ring),
+                chip,
                 mfm: self.mfm,
+                sso: self.sso,
                 regs,
                 wires: Wires {
                     drq: after.drq,
@@ -557,6 +573,7 @@ impl Machine {
         ensures { λ r. ⌜ r ≡ afterStretch self passed ready ⌝ }
     {
         let ring = self.ring;
+        let chip = self.chip;
         let regs = self.regs;
         let wires = self.wires;
         let flags = self.flags;
@@ -568,7 +585,9 @@ impl Machine {
                 length: ring.length,
                 position: ring.position + passed,
             },
+            chip,
             mfm: self.mfm,
+            sso: self.sso,
             regs,
             wires,
             flags,
@@ -623,6 +642,7 @@ impl Machine {
         ensures { λ r. ⌜ r ≡ afterTransfer self ready dr next ⌝ }
     {
         let ring = self.ring;
+        let chip = self.chip;
         let mut regs = self.regs;
         let mut wires = self.wires;
         let mut flags = self.flags;
@@ -633,7 +653,9 @@ impl Machine {
         wires.drq = true;
         Machine {
             ring: rings::next(ring),
+            chip,
             mfm: self.mfm,
+            sso: self.sso,
             regs,
             wires,
             flags,

@@ -14,6 +14,11 @@ use Rattle.common.proofs.Cases.{by-cond, never, both}
 use Rattle.scan.specs.Marks.{leadOf}
 use Rattle.scan.specs.Streams.{MarkAt, behind, idWidth}
 use Rattle.fields.specs.Rings.{cellsOf}
+use Rattle.command.specs.Bits.{sideAsked, ibmLengths}
+use Rattle.command.specs.Commands.{decodedOf}
+use Rattle.command.specs.declared.Chip.{Chip}
+use Rattle.command.specs.declared.Command.the-variants.{ReadSector}
+use Rattle.command.specs.declared.Decoded.the-variants.{Taken}
 use Rattle.wd.specs.declared.Machine.{Machine}
 use Rattle.wd.specs.Loads.{loadRegister}
 use Rattle.reachable.proofs.Samples.{sampleLength, on}
@@ -88,12 +93,19 @@ module _ (x : Plan) (c : Computed x) where
   unfolding summary stepFrom at
   accepted-again = ap (λ (e : Summary). e .number) ended
 
+  same-chip : left-by x .machine .chip ≡ x .machine .chip
+  unfolding summary stepFrom at
+  same-chip = ap (λ (e : Summary). e .chip) ended
+
+  reads-then : decodedOf (left-by x .machine .chip) (x .byte-then) ≡ Taken ReadSector
+  reads-then = ap (λ (chip : Chip). decodedOf chip (x .byte-then)) same-chip ∙ c .reads
+
   -- demand 3: the Read Sector ends by itself
   pub read-ends : Demand3 (again x)
   unfolding summary stepFrom at
   read-ends =
       in-time (again x)
-      (asked-by (x .byte-then) (left-by x .machine) (left-by x .row) (c .reads) (c .same-m ∙ c .single) accepted-again
+      (asked-by (x .byte-then) (left-by x .machine) (left-by x .row) reads-then (c .same-m ∙ c .single) accepted-again
       (eqb-true _ _ (ap (λ (e : Summary). e .whole) ended))
       (low-by (left-by x .row) (ap (λ (e : Summary). e .cells) ended)))
 
@@ -130,12 +142,13 @@ module _ (x : Plan) (c : Computed x) where
           lost = ap (λ (e : Summary). e .lost) ended;
         };
         next = λ n l. no-command x n _;
-        reads = c .reads;
+        reads = reads-then;
         same-tr = ap (λ (e : Summary). e .tr) ended;
         same-sr = ap (λ (e : Summary). e .sr) ended;
         same-m = c .same-m;
         same-e = c .same-e;
-        same-side = c .same-side;
+        same-side = ap (λ (chip : Chip). sideAsked chip (x .byte-then)) same-chip ∙ c .same-side;
+        same-lengths = ap (λ (chip : Chip). ibmLengths chip (x .byte-then)) same-chip ∙ c .same-lengths;
         accepted-then = accepted-again;
         ready-then = refl;
         alone = λ n l. polling-alone (loaded (again x)) n;

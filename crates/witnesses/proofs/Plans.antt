@@ -8,7 +8,8 @@ use native.Mathlib.Omega.{arith}
 use lib.Dec.{ltb, leb, eqb}
 use lib.ListN.{length}
 use Rattle.scan.specs.Streams.{MarkAt, idFrom}
-use Rattle.command.specs.Bits.{isMultiple, settlesFirst, sideAsked}
+use Rattle.command.specs.Bits.{isMultiple, settlesFirst, sideAsked, ibmLengths}
+use Rattle.command.specs.declared.Chip.{Chip}
 use Rattle.command.specs.Commands.{decodedOf}
 use Rattle.command.specs.declared.Command.the-variants.{ReadSector, WriteSector}
 use Rattle.command.specs.declared.Decoded.the-variants.{Taken}
@@ -83,6 +84,7 @@ pub record Summary : Type 0 where
   pub missing : Bool
   pub crc : Bool
   pub lost : Bool
+  pub chip : Chip
   pub tr : ℕ
   pub sr : ℕ
   pub number : ℕ
@@ -101,6 +103,7 @@ summary x w =
       missing = over .desk .machine .flags .missing;
       crc = over .desk .machine .flags .crc;
       lost = over .desk .machine .flags .lost;
+      chip = found .machine .chip;
       tr = found .machine .regs .tr;
       sr = found .machine .regs .sr;
       number = loadRegister (found .machine) on 0 (x .byte-then) .number;
@@ -119,6 +122,7 @@ planned x =
       missing = false;
       crc = false;
       lost = false;
+      chip = x .machine .chip;
       tr = x .machine .regs .tr;
       sr = x .machine .regs .sr;
       number = 0;
@@ -130,15 +134,16 @@ planned x =
 -- what computes
 pub record Computed (x : Plan) : Type 0 where
   pub dr : ltb (x .machine .regs .dr) 256 ≡ true
-  pub writes : decodedOf (x .byte) ≡ Taken WriteSector
+  pub writes : decodedOf (x .machine .chip) (x .byte) ≡ Taken WriteSector
   pub single : isMultiple (x .byte) ≡ false
   pub accepted : loadRegister (x .machine) on 0 (x .byte) .number ≡ 0
   pub ended : summary x (walked (writer x) (begun-by x) (x .last)) ≡ planned x
   pub serves : serves-from loadsDr readsDr (writer x) (suc (x .last)) 0 (begun-by x) ≡ true
-  pub reads : decodedOf (x .byte-then) ≡ Taken ReadSector
+  pub reads : decodedOf (x .machine .chip) (x .byte-then) ≡ Taken ReadSector
   pub same-m : isMultiple (x .byte-then) ≡ isMultiple (x .byte)
   pub same-e : settlesFirst (x .byte-then) ≡ settlesFirst (x .byte)
-  pub same-side : sideAsked (x .byte-then) ≡ sideAsked (x .byte)
+  pub same-side : sideAsked (x .machine .chip) (x .byte-then) ≡ sideAsked (x .machine .chip) (x .byte)
+  pub same-lengths : ibmLengths (x .machine .chip) (x .byte-then) ≡ ibmLengths (x .machine .chip) (x .byte)
   pub wide : length (x .track) ≡ sampleLength
   pub short : leb (x .p) 2000 ≡ true
   pub flags : flagged-in (x .p) (flags-of (x .machine .mfm)) 0 (x .track) ≡ true

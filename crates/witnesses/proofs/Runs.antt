@@ -14,11 +14,12 @@ use Rattle.scan.specs.Streams.{MarkAt, idFrom}
 use Rattle.scan.specs.DataMarks.{markByte, isDeleted, dataMarkOf, dataMarkIn, dataMarkStep, windowOf}
 use Rattle.scan.specs.Ids.{idBegun, pushedOf, wholeOf, idByteStep, runIn, idCellStep, idMarkStep, idStep}
 use Rattle.scan.specs.Rows.{lengthWithin}
-use Rattle.command.specs.Commands.{classOf, decodedOf, jobOf, isRestore}
+use Rattle.command.specs.Commands.{classOf, decodedByBoth, decodedOf, jobOf, isRestore}
 use Rattle.command.specs.Orders.{inwardOf, orderOf}
-use Rattle.command.specs.Sizes.{sizeOf}
+use Rattle.command.specs.Sizes.{sizeOf, fieldSize}
 use Rattle.command.specs.Times.{stepTimeOf, settleTimeOf}
-use Rattle.command.specs.Bits.{loadsHead, settlesFirst, isMultiple, verifiesTrack, sideOf, sideAsked, markWritten}
+use Rattle.command.specs.Bits.{loadsHead, settlesFirst, isMultiple, verifiesTrack, sideOf, sideAsked, ibmLengths, markWritten}
+use Rattle.command.specs.declared.Chip.the-variants.{Wd1793, Wd1797}
 use Rattle.command.specs.declared.Command.the-variants.{WriteSector}
 use Rattle.command.specs.declared.Decoded.the-variants.{Taken}
 use Rattle.activity.specs.Acts.{takenOf}
@@ -62,7 +63,7 @@ id-side-1 = 0x1FE ∷ 0x00 ∷ 0x01 ∷ 0x01 ∷ 0x00 ∷ 0xE5 ∷ 0xF3 ∷ []
 abbrev pub fm : Plan
 fm =
     record {
-      machine = fresh false;
+      machine = fresh false Wd1793;
       byte = 0xA0;
       byte-then = 0x80;
       track = id-side-0 ++ replicate 2041 0x00;
@@ -77,7 +78,7 @@ fm =
 abbrev pub mfm-deleted : Plan
 mfm-deleted =
     record {
-      machine = fresh true;
+      machine = fresh true Wd1793;
       byte = 0xA1;
       byte-then = 0x80;
       track =
@@ -93,7 +94,7 @@ mfm-deleted =
 abbrev pub fm-settled : Plan
 fm-settled =
     record {
-      machine = fresh false;
+      machine = fresh false Wd1793;
       byte = 0xAE;
       byte-then = 0x8E;
       track = replicate 469 0x00 ++ id-side-1 ++ replicate 1572 0x00;
@@ -104,11 +105,26 @@ fm-settled =
       bytes = count 238 18 ++ count 0 110;
     }
 
+-- FM on a WD1797 with U 1 and L 0: the ID is of side 1, and its length code, 3, means 128 bytes
+abbrev pub two-sided : Plan
+two-sided =
+    record {
+      machine = fresh false Wd1797;
+      byte = 0xA2;
+      byte-then = 0x82;
+      track = (0x1FE ∷ 0x00 ∷ 0x01 ∷ 0x01 ∷ 0x03 ∷ 0xD5 ∷ 0x90 ∷ []) ++ replicate 2041 0x00;
+      p = 0;
+      first = 9;
+      cell = 25;
+      last = 155;
+      bytes = count 25 128;
+    }
+
 -- ---- scenes
 
 -- a Read Sector; FB is the 31st cell after the ID
 abbrev pub outside : Scene
-outside = sceneOf (fresh false) (id-side-0 ++ replicate 30 0x00 ++ (0x1FB ∷ []) ++ replicate 2010 0x00)
+outside = sceneOf (fresh false Wd1793) (id-side-0 ++ replicate 30 0x00 ++ (0x1FB ∷ []) ++ replicate 2010 0x00)
 
 -- a host that makes no calls, and a Write Sector
 abbrev pub nobody : Host
@@ -116,7 +132,7 @@ nobody = record { calls = λ n. []; lines = λ n. on }
 
 abbrev pub unserved : Scene
 unserved =
-    record { machine = fresh false; lines = on; byte = 0xA0; row = id-side-0 ++ replicate 2041 0x00; host = nobody }
+    record { machine = fresh false Wd1793; lines = on; byte = 0xA0; row = id-side-0 ++ replicate 2041 0x00; host = nobody }
 
 -- ---- what computes
 
@@ -127,7 +143,7 @@ pub record LastIn (s : Scene) (n : ℕ) : Type 0 where
 
 -- the ID ends with byte time 6; the second after it asks, the tenth finds DRQ on
 pub record Unserved : Type 0 where
-  pub writes : decodedOf (unserved .byte) ≡ Taken WriteSector
+  pub writes : decodedOf (unserved .machine .chip) (unserved .byte) ≡ Taken WriteSector
   pub accepted : loadRegister (unserved .machine) on 0 (unserved .byte) .number ≡ 0
   pub ends : LastIn unserved 16
   pub searches : Gives (deedAt nobody (loaded unserved)) Nothing (count 0 6)
@@ -140,6 +156,7 @@ pub record Runs : Type 0 where
   pub of-fm : Computed fm
   pub of-mfm : Computed mfm-deleted
   pub of-settled : Computed fm-settled
+  pub of-two-sided : Computed two-sided
   pub of-outside : LastIn outside 36
   pub of-unserved : Unserved
 
@@ -147,7 +164,7 @@ pub runs : Runs
 unfolding allLow summary walked stepFrom deedOn takes loadsDr readsDr on-drq serves-from flagged-in flags-of crcBit crcBits
     crcByte crcOver leadOf carriesMark syncRun markStep markBytes markCrc markByte isDeleted dataMarkOf dataMarkIn
     dataMarkStep idBegun pushedOf wholeOf idByteStep runIn idCellStep idMarkStep idStep bitOf settlesFirst isMultiple
-    verifiesTrack sideOf sideAsked markWritten isRestore loadsHead decodedOf classOf jobOf inwardOf orderOf sizeOf
+    verifiesTrack sideOf sideAsked ibmLengths markWritten isRestore loadsHead decodedOf decodedByBoth classOf jobOf inwardOf orderOf sizeOf fieldSize
     stepTimeOf settleTimeOf busyIn scanWithin countsWithin pulsesSeen sideMatches sectorMatches matchesFor afterMatch
     idFound searchStep searchCell afterRecord lastKept lastZero markPlace markCell preambleCell preambleNext preambleDeed
     preambleTurn takenOf putCell jobBegun begunActivity settleTurn activityAct actOf lengthWithin ringWithin ringNext seenOf
@@ -169,6 +186,7 @@ runs =
         same-m = refl;
         same-e = refl;
         same-side = refl;
+        same-lengths = refl;
         wide = refl;
         short = refl;
         flags = refl;
@@ -187,6 +205,7 @@ runs =
         same-m = refl;
         same-e = refl;
         same-side = refl;
+        same-lengths = refl;
         wide = refl;
         short = refl;
         flags = refl;
@@ -205,6 +224,26 @@ runs =
         same-m = refl;
         same-e = refl;
         same-side = refl;
+        same-lengths = refl;
+        wide = refl;
+        short = refl;
+        flags = refl;
+        mark = (omega arith, refl);
+        of-track = refl;
+        of-sector = refl;
+      };
+      of-two-sided = record {
+        dr = refl;
+        writes = refl;
+        single = refl;
+        accepted = refl;
+        ended = refl;
+        serves = refl;
+        reads = refl;
+        same-m = refl;
+        same-e = refl;
+        same-side = refl;
+        same-lengths = refl;
         wide = refl;
         short = refl;
         flags = refl;

@@ -19,7 +19,9 @@ use Rattle.scan.specs.Rows.{lengthWithin}
 use Rattle.scan.specs.declared.Id.{Id}
 use Rattle.scan.specs.Streams.{MarkAt, behind, IdAt, crcFrom, idFrom, IdEnds}
 use Rattle.command.specs.Bits.{settlesFirst, isMultiple, sideOf, sideAsked}
-use Rattle.command.specs.Commands.{decodedOf}
+use Rattle.command.specs.Commands.{decodedByBoth, decodedOf}
+use Rattle.command.specs.declared.Chip.{Chip}
+use Rattle.command.specs.declared.Chip.the-variants.{Wd1793, Wd1797}
 use Rattle.command.specs.Times.{settleTimeOf}
 use Rattle.activity.specs.Limits.{busyIn, countsWithin}
 use Rattle.registers.specs.Registers.{guarded, loadRefusal}
@@ -30,7 +32,7 @@ use Rattle.wd.specs.Machines.{validOf, freshMachine, powerOn}
 use Rattle.wd.specs.Loads.{commandAnswer, loadRegister}
 use Rattle.reachable.specs.ByteTimes.{turnsOn}
 use Rattle.hosts.specs.Hosts.{at, EndsAt}
-use Rattle.hosts.specs.Scenes.{Scene, loaded, Suits}
+use Rattle.hosts.specs.Scenes.{Scene, loaded, SideSuits, Suits}
 use Rattle.hosts.specs.Tracks.{passing}
 use Rattle.hosts.proofs.LowRows.{allLow, low-by}
 use Rattle.hosts.proofs.Courses.{ends-once}
@@ -72,7 +74,7 @@ id-at cells a mark plain =
 
 outside-asked : InTimePremises outside
 unfolding allLow powerOn lengthWithin freshMachine
-outside-asked = scene-asked (fresh false) (outside .row) (fresh-accepts false) refl (low-by (outside .row) refl)
+outside-asked = scene-asked (fresh false Wd1793) (outside .row) (fresh-accepts false Wd1793) refl (low-by (outside .row) refl)
 
 outside-first : FirstWhole outside 6
 unfolding leadOf idFrom crcFrom crcByte crcBits crcBit passing cellsOf bitOf settlesFirst sideAsked turnsOn powerOn
@@ -128,76 +130,88 @@ three-ids =
     ++ (0x1FB ∷ [])
     ++ replicate 1539 0x00
 
--- a Read Sector of side 1 at power-on, TR 0 and SR 1, with E and C
-abbrev settled : Scene
-settled = sceneBy 0x8E (fresh false) three-ids
+-- 8E asks for side 1, on both chips
+suits-side-1 : (chip : Chip) → SideSuits chip 0x8E 1
+unfolding bitOf
+suits-side-1 Wd1793 = λ asks. refl
+suits-side-1 Wd1797 = refl
 
-settled-asked : InTimePremises settled
-unfolding allLow decodedOf bitOf isMultiple loadRegister loadRefusal guarded validOf ringWithin lengthWithin countsWithin busyIn
-    powerOn freshMachine commandAnswer
-settled-asked = asked-by 0x8E (fresh false) three-ids refl refl refl refl (low-by three-ids refl)
+only-side-1 : (chip : Chip) (side : ℕ) → SideSuits chip 0x8E side → side ≡ 1
+unfolding bitOf
+only-side-1 Wd1793 side suits = suits refl
+only-side-1 Wd1797 side suits = suits
 
--- the ID of side 0 is passed over
-not-asked : (k : ℕ) → k < 13 → (other : Id) → IdEnds false (streamOf settled) k other → Suits settled other → ⊥
-unfolding leadOf idFrom passing cellsOf bitOf settlesFirst settleTimeOf sideOf sideAsked turnsOn ringNext powerOn lengthWithin
-    freshMachine
-not-asked k l other (a, p, stands, says) suits = by (decLt 0 a)
-  where
-    by : Dec (0 < a) → ⊥
-    by (yes some) = unmarked (streamOf settled) 1 6 refl a 0xFE some (omega arith) (stands .mark)
-    by (no none) =
-        let here : a ≡ 0 = omega arith in
-        let side : other .side ≡ 0 = ap (λ (id : Id). id .side) says ∙ (rw here refl) in
-        omega (arith, suits .side refl)
+module _ (chip : Chip) where
+  -- a Read Sector of side 1 at power-on, TR 0 and SR 1, with E, and C and S, which on the WD1797 are U and L
+  abbrev settled : Scene
+  settled = sceneBy 0x8E (fresh false chip) three-ids
 
-settled-first : FirstWhole settled 13
-unfolding leadOf idFrom crcFrom crcByte crcBits crcBit passing cellsOf bitOf settlesFirst settleTimeOf sideOf sideAsked
-    turnsOn ringNext powerOn lengthWithin freshMachine
-settled-first =
-    record {
-      id = record { track = 0; side = 1; sector = 1; length = 0; good = true };
-      ends = (7, refl, id-at (streamOf settled) 7 refl refl, refl);
-      suits = record { track = refl; sector = refl; side = λ asks. refl; good = refl };
-      first = not-asked;
-    }
+  settled-asked : InTimePremises settled
+  unfolding allLow decodedOf decodedByBoth bitOf isMultiple loadRegister loadRefusal guarded validOf ringWithin lengthWithin countsWithin busyIn
+      powerOn freshMachine commandAnswer
+  settled-asked = asked-by 0x8E (fresh false chip) three-ids refl refl refl refl (low-by three-ids refl)
 
-settled-mark : MarkInWindow settled 13
-unfolding MarkAt leadOf windowCells passing cellsOf bitOf settlesFirst settleTimeOf turnsOn ringNext powerOn lengthWithin
-    freshMachine
-settled-mark =
-    record {
-      a = 39;
-      byte = 0xFB;
-      data-mark = inl refl;
-      stands = (omega arith, refl);
-      after = omega arith;
-      within = omega arith;
-    }
+  -- the ID of side 0 is passed over
+  not-asked : (k : ℕ) → k < 13 → (other : Id) → IdEnds false (streamOf settled) k other → Suits settled other → ⊥
+  unfolding leadOf idFrom passing cellsOf bitOf settlesFirst settleTimeOf sideOf sideAsked turnsOn ringNext powerOn lengthWithin
+      freshMachine
+  not-asked k l other (a, p, stands, says) suits = by (decLt 0 a)
+    where
+      by : Dec (0 < a) → ⊥
+      by (yes some) = unmarked (streamOf settled) 1 6 refl a 0xFE some (omega arith) (stands .mark)
+      by (no none) =
+          let here : a ≡ 0 = omega arith in
+          let side : other .side ≡ 0 = ap (λ (id : Id). id .side) says ∙ (rw here refl) in
+          omega (arith, only-side-1 chip (other .side) (suits .side))
 
--- nothing that Record Not Found is for
-settled-served : (OnRing settled → ⊥) ⊎ ((k : ℕ) × FirstWhole settled k × (MarkInWindow settled k → ⊥)) → ⊥
-settled-served (inl nowhere) = nowhere (whole-ring settled settled-asked 13 settled-first)
-settled-served (inr (k, first, none)) =
-    let same : k ≡ 13 = first-once settled settled-asked k 13 first settled-first in
-    none (rw same settled-mark)
+  settled-first : FirstWhole settled 13
+  unfolding leadOf idFrom crcFrom crcByte crcBits crcBit passing cellsOf bitOf settlesFirst settleTimeOf sideOf sideAsked
+      turnsOn ringNext powerOn lengthWithin freshMachine
+  settled-first =
+      record {
+        id = record { track = 0; side = 1; sector = 1; length = 0; good = true };
+        ends = (7, refl, id-at (streamOf settled) 7 refl refl, refl);
+        suits = record { track = refl; sector = refl; side = suits-side-1 chip; good = refl };
+        first = not-asked;
+      }
 
--- it ends, within 469 + 2,048 + 1,078 byte times, with INTRQ and without Record Not Found
-pub settled-side-1 :
-    InTimePremises settled
-    × ((n : ℕ)
-    × EndsAt reader (loaded settled) n
-    × (n ≤ 3595)
-    × (at reader (loaded settled) n .machine .wires .intrq ≡ true)
-    × ((l : Lines) → notFound (at reader (loaded settled) n .machine) l ≡ false))
-unfolding bitOf settlesFirst settleTimeOf powerOn lengthWithin freshMachine
-settled-side-1 =
-    let (n, ends, says) = in-time settled settled-asked in (
-      settled-asked,
-      (
-        n,
-        ends,
-        says .found (whole-ring settled settled-asked 13 settled-first),
-        says .raised,
-        λ l. not-eq-not .0 (λ told. settled-served (says .exactly l .0 told)),
-      ),
-    )
+  settled-mark : MarkInWindow settled 13
+  unfolding MarkAt leadOf windowCells passing cellsOf bitOf settlesFirst settleTimeOf turnsOn ringNext powerOn lengthWithin
+      freshMachine
+  settled-mark =
+      record {
+        a = 39;
+        byte = 0xFB;
+        data-mark = inl refl;
+        stands = (omega arith, refl);
+        after = omega arith;
+        within = omega arith;
+      }
+
+  -- nothing that Record Not Found is for
+  settled-served : (OnRing settled → ⊥) ⊎ ((k : ℕ) × FirstWhole settled k × (MarkInWindow settled k → ⊥)) → ⊥
+  settled-served (inl nowhere) = nowhere (whole-ring settled settled-asked 13 settled-first)
+  settled-served (inr (k, first, none)) =
+      let same : k ≡ 13 = first-once settled settled-asked k 13 first settled-first in
+      none (rw same settled-mark)
+
+  -- it ends, within 469 + 2,048 + 1,078 byte times, with INTRQ and without Record Not Found
+  pub settled-side-1 :
+      InTimePremises settled
+      × ((n : ℕ)
+      × EndsAt reader (loaded settled) n
+      × (n ≤ 3595)
+      × (at reader (loaded settled) n .machine .wires .intrq ≡ true)
+      × ((l : Lines) → notFound (at reader (loaded settled) n .machine) l ≡ false))
+  unfolding bitOf settlesFirst settleTimeOf powerOn lengthWithin freshMachine
+  settled-side-1 =
+      let (n, ends, says) = in-time settled settled-asked in (
+        settled-asked,
+        (
+          n,
+          ends,
+          says .found (whole-ring settled settled-asked 13 settled-first),
+          says .raised,
+          λ l. not-eq-not .0 (λ told. settled-served (says .exactly l .0 told)),
+        ),
+      )

@@ -1,5 +1,5 @@
 -- Sessions that demand 2 speaks of, so that it speaks of something, and what it says of them: a sector of 128 bytes in FM, one
--- in MFM with a deleted mark, and one with E and C. The writer loads DR where DRQ is on, with the number of the byte time that
+-- in MFM with a deleted mark, one with E and C, and one of a WD1797 with U and without L. The writer loads DR where DRQ is on, with the number of the byte time that
 -- takes the byte (modulo 256); the reader reads the status before every byte time, and DR where DRQ is on. Assumes nothing.
 use mathlib.Core.Bool.{true, false}
 use mathlib.Core.List.{_++_}
@@ -11,7 +11,7 @@ use Rattle.exact.specs.Demand2.{ReadBackPremises}
 use Rattle.served.specs.Served.{WriterServes, ReaderServes}
 use Rattle.witnesses.proofs.Planned.{session, asked, writer-serves, reader-serves}
 use Rattle.witnesses.proofs.ReadBytes.{HandsOver, reads-planned, HostSees, sees-planned}
-use Rattle.witnesses.proofs.Runs.{fm, mfm-deleted, fm-settled, runs}
+use Rattle.witnesses.proofs.Runs.{fm, mfm-deleted, fm-settled, two-sided, runs}
 
 -- all that is asked is met, so the bytes that the write took are read back, with the mark that it wrote: 25, 26, .. 152
 pub fm-reads-back :
@@ -33,6 +33,13 @@ pub settled-reads-back :
     ReadBackPremises s 469 × HandsOver s (count 238 18 ++ count 0 110) false
 unfolding markWritten bitOf isDeleted
 settled-reads-back = (asked fm-settled (runs .of-settled), reads-planned fm-settled (runs .of-settled))
+
+-- 25, 26, .. 152, of side 1
+pub two-sided-reads-back :
+    let s = session two-sided (runs .of-two-sided) in
+    ReadBackPremises s 0 × HandsOver s (count 25 128) false
+unfolding markWritten bitOf isDeleted
+two-sided-reads-back = (asked two-sided (runs .of-two-sided), reads-planned two-sided (runs .of-two-sided))
 
 -- ---- the hosts
 
@@ -60,3 +67,11 @@ unfolding markWritten bitOf isDeleted
 settled-serves =
     let c = runs .of-settled in
     (asked fm-settled c, writer-serves fm-settled c, reader-serves fm-settled c, sees-planned fm-settled c)
+
+pub two-sided-serves :
+    let s = session two-sided (runs .of-two-sided) in
+    ReadBackPremises s 0 × WriterServes s × ReaderServes s × HostSees s (count 25 128) false
+unfolding markWritten bitOf isDeleted
+two-sided-serves =
+    let c = runs .of-two-sided in
+    (asked two-sided c, writer-serves two-sided c, reader-serves two-sided c, sees-planned two-sided c)

@@ -4,6 +4,7 @@ use std::mem;
 
 use super::step::{Call, Outcome, Step};
 use crate::bench::Bench;
+use crate::chip::Chip;
 use crate::density::Density;
 use crate::machine::{Direction, Machine, SHORTEST_TRACK};
 use crate::number;
@@ -58,23 +59,27 @@ impl Desk<'_> {
         outcome
     }
 
-    /// "The status byte, TR, SR, DR, DRQ and INTRQ, and the head position."
-    fn state(&mut self) -> [u16; 7] {
+    /// "The status byte, TR, SR, DR, DRQ and INTRQ, and the head position"; of a 1797 the side
+    /// output too.
+    fn state(&mut self) -> Vec<u16> {
         let machine = self.take();
         let mut right = Outcome::of(number::DONE, machine.clone());
         if machine.is_in_range() {
             right.byte = machine.status_byte(self.bench.lines);
         }
-        let status = self.meet(Call::Look, &machine, right).byte;
-        [
-            u16::from(status),
+        right.side_output = Some(machine.side_output).filter(|_| machine.chip == Chip::Wd1797);
+        let looked = self.meet(Call::Look, &machine, right);
+        let mut columns = vec![
+            u16::from(looked.byte),
             u16::from(machine.track),
             u16::from(machine.sector),
             u16::from(machine.data),
             u16::from(machine.data_request),
             u16::from(machine.interrupt_request),
             machine.position,
-        ]
+        ];
+        columns.extend(looked.side_output.map(u16::from));
+        columns
     }
 
     /// The bench does it, rows and all.
@@ -165,7 +170,7 @@ impl Desk<'_> {
 
 /// What stands in for the machine while a call has it.
 fn no_machine() -> Machine {
-    Machine::power_on(SHORTEST_TRACK, Density::Fm).machine
+    Machine::power_on(Chip::Wd1793, SHORTEST_TRACK, Density::Fm).machine
 }
 
 fn pulses(outcome: &Outcome, direction: Direction) -> u16 {

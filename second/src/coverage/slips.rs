@@ -1,16 +1,19 @@
-// The table of slips: sentences of document 01, and for each the ways to get it wrong.
+// The table of slips: sentences of the documents, and for each the ways to get it wrong.
 
 mod accepting;
 mod accepts;
+mod chips;
 mod forcing;
 mod formatting;
 mod leave;
+mod length_flag;
 mod power_on;
 mod reading;
 mod refusing;
 mod registers;
 mod ring;
 mod searching;
+mod sides;
 mod status;
 mod stepping;
 mod turn;
@@ -19,8 +22,8 @@ mod writing;
 
 use super::step::{Outcome, Step};
 
-/// All subjects, in the order of document 01.
-pub const SUBJECTS: [&Subject; 13] = [
+/// All subjects, in the order of document 01; after them those of request i.
+pub const SUBJECTS: [&Subject; 16] = [
     &ring::SUBJECT,
     &power_on::SUBJECT,
     &refusing::SUBJECT,
@@ -34,6 +37,9 @@ pub const SUBJECTS: [&Subject; 13] = [
     &reading::SUBJECT,
     &writing::SUBJECT,
     &formatting::SUBJECT,
+    &chips::SUBJECT,
+    &sides::SUBJECT,
+    &length_flag::SUBJECT,
 ];
 
 pub struct Subject {
@@ -44,7 +50,8 @@ pub struct Subject {
 
 /// A sentence, or a part of one.
 struct Sentence {
-    /// As document 01 has it; ".." stands where words are left out.
+    /// As the document has it, which is 01 or 02 where none is named; ".." stands where words are
+    /// left out.
     says: &'static str,
     slips: &'static [Slip],
 }

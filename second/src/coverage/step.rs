@@ -40,6 +40,8 @@ pub struct Outcome {
     pub cell: u16,
     /// Whether a run goes on though DRQ or INTRQ is on.
     pub goes_on: bool,
+    /// The side output that a line shows; of a 1793 it shows none.
+    pub side_output: Option<u8>,
 }
 
 /// A call as the machine meets it.
@@ -63,12 +65,31 @@ impl Outcome {
             machine,
             cell: 0,
             goes_on: false,
+            side_output: None,
         }
     }
 
     /// The command ends here by itself.
     pub fn end(&mut self) {
         self.machine.activity = self.machine.end();
+    }
+
+    /// Changes what a command asks for that has just been accepted, or that searches afresh.
+    pub fn change_command(&mut self, change: impl Fn(&mut Command)) {
+        match &mut self.machine.activity {
+            Activity::Settling(settling) => change(&mut settling.command),
+            Activity::Searching(search) => change(&mut search.command),
+            _ => {}
+        }
+    }
+
+    /// The record that has just been found, if one has, is of so many bytes.
+    pub fn set_size(&mut self, size: usize) {
+        match &mut self.machine.activity {
+            Activity::AwaitingDataMark(window) => window.size = size,
+            Activity::WritingRecord(write) => write.size = size,
+            _ => {}
+        }
     }
 }
 
@@ -95,7 +116,8 @@ impl Step<'_> {
 
     /// The command that a load accepts.
     pub fn accepted(&self) -> Option<Command> {
-        self.loaded(0).and_then(Command::decode)
+        let byte = self.loaded(0)?;
+        Command::decode(byte, self.before.chip)
     }
 
     pub fn accepts(&self, such: fn(Command) -> bool) -> bool {
@@ -173,6 +195,15 @@ impl Step<'_> {
             Activity::Searching(search) if self.passes() => Some(search.clone()),
             _ => self.searches().map(Search::new),
         }
+    }
+
+    /// A record has ended, and with m another is searched for.
+    pub fn begins_next_record(&self) -> bool {
+        let is_record = matches!(
+            self.before.activity,
+            Activity::ReadingRecord(_) | Activity::WritingRecord(_)
+        );
+        is_record && matches!(self.right.machine.activity, Activity::Searching(_))
     }
 
     /// How many pulses a search has counted before this byte time.

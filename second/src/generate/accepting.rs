@@ -1,6 +1,6 @@
 // Scenes of commands loaded while something is on: DRQ, INTRQ, conditions of a Force Interrupt.
 
-use super::refusing::no_commands;
+use super::refusing::is_force;
 use super::{Generator, HEAD_LOADED, PROTECT, READY, TRACK_0};
 use crate::command::{Command, Name};
 
@@ -57,11 +57,11 @@ impl Generator {
         self.put_head(head);
         let byte = self.command_named(loading.name);
         let before = [READ_TRACK, WRITE_TRACK][usize::from(loading.request)];
-        self.load(0, before);
+        self.command(before);
         self.refuse_while_busy(byte);
         self.load(0, loading.force);
         if self.random.one_in(3) {
-            let no_command = self.random.pick(&no_commands());
+            let no_command = self.no_command();
             self.load(0, no_command);
         }
         self.load(0, byte);
@@ -70,17 +70,18 @@ impl Generator {
     }
 
     /// Any byte of this command.
-    fn command_named(&mut self, name: Name) -> u8 {
-        let is_named = |byte: &u8| Command::decode(*byte).map(|it| it.name) == Some(name);
+    pub fn command_named(&mut self, name: Name) -> u8 {
+        let chip = self.chip();
+        let is_named = |&byte: &u8| Command::decode(byte, chip).map(|it| it.name) == Some(name);
         let bytes: Vec<u8> = (0..=255).filter(is_named).collect();
         self.random.pick(&bytes)
     }
 
     /// 6 for a command, or for a byte that is none. Only Force Interrupt is taken.
     fn refuse_while_busy(&mut self, byte: u8) {
-        let no_command = self.random.pick(&no_commands());
+        let no_command = self.no_command();
         let tried = self.random.pick(&[byte, byte, no_command]);
-        if !Command::decode(tried).map_or(false, Command::forces) {
+        if !is_force(tried) {
             self.load(0, tried);
         }
     }
@@ -108,9 +109,9 @@ impl Generator {
         let byte = self
             .random
             .pick(&[0x80, 0xA0, 0xA4, 0xB1, 0xC0, 0xE0, 0xF0, 0xF4]);
-        self.load(0, byte);
+        self.command(byte);
         if self.random.one_in(2) {
-            self.load(0, 0xC0);
+            self.command(0xC0);
         }
         self.load(0, 0xD0);
         self.load(0, 0xD0);

@@ -22,13 +22,7 @@ impl Generator {
     pub fn chain_scene(&mut self) {
         let first: u8 = self.random.pick(&[9, 254, 255, 255]);
         let place = self.random.below(self.plan.length);
-        for (step, mark) in self.chain_marks().into_iter().enumerate() {
-            let sector = Sector {
-                mark,
-                ..Sector::short(first.wrapping_add(step as u8))
-            };
-            self.lay_sector(place + 200 * step, sector);
-        }
+        self.lay_chain(place, first);
         if self.random.one_in(2) {
             let spoilt = (place + 100) % self.plan.length;
             let cell = self.bench.current[spoilt] ^ 1;
@@ -38,16 +32,31 @@ impl Generator {
         self.set_wires(READY | HEAD_LOADED);
         self.put_head(place + self.plan.length - 5);
         let (byte, host) = self.random.pick(&CHAINS);
-        self.load(0, byte);
+        self.command(byte);
         self.serve_record(host);
-        match self.random.below(5) {
+        match self.random.below(7) {
             0 => self.load(0, 0xD0),
             1 | 2 => self.pass_pulses(),
             _ => self.serve(host, MOST_ROUNDS),
         }
         self.end_command();
-        self.load(0, 0xC0);
+        self.command(0xC0);
         self.load(0, 0xD0);
+    }
+
+    /// At times the second sector is of the other side.
+    fn lay_chain(&mut self, place: usize, first: u8) {
+        let marks = self.chain_marks();
+        let side = self.plan.side;
+        let sides = [side, self.random.pick(&[side, side, side, side ^ 1])];
+        for (step, (mark, side)) in marks.into_iter().zip(sides).enumerate() {
+            let sector = Sector {
+                side,
+                mark,
+                ..self.short_sector(first.wrapping_add(step as u8))
+            };
+            self.lay_sector(place + 200 * step, sector);
+        }
     }
 
     fn chain_marks(&mut self) -> [u8; 2] {

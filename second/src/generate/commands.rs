@@ -1,7 +1,8 @@
 // Scenes of single commands: Type I, the sector commands, Read Address and the track commands.
 
 use super::serving::Host;
-use super::{Generator, Sector, HEAD_LOADED, NO_LIMIT, PROTECT, READY, TRACK_0};
+use super::{Generator, HEAD_LOADED, NO_LIMIT, PROTECT, READY, TRACK_0};
+use crate::chip::Chip;
 use crate::command::Command;
 
 /// Rounds after which a scene ends its command by force.
@@ -9,10 +10,10 @@ const MOST_ROUNDS: usize = 3000;
 /// The longest track whose every cell a scene reads or writes without a second thought.
 const SHORT_TRACK: usize = 2300;
 
-/// Read Sector and Write Sector with all of their bits.
+/// Read Sector and Write Sector with all of their bits: the same bytes on both chips.
 pub fn sector_commands() -> Vec<u8> {
     (0x80..=0xBF)
-        .filter(|&byte| Command::decode(byte).is_some())
+        .filter(|&byte| Command::decode(byte, Chip::Wd1793).is_some())
         .collect()
 }
 
@@ -70,13 +71,13 @@ impl Generator {
         self.choose_transfer_wires();
         if self.random.one_in(3) {
             let place = self.plan.length - self.random.between(1, 9);
-            self.lay_sector(place, Sector::short(1));
+            self.lay_sector(place, self.short_sector(1));
             self.put_head(place - 1);
         } else {
             self.choose_head();
         }
         let byte = self.random.pick(&[0xC0, 0xC0, 0xC4]);
-        self.load(0, byte);
+        self.command(byte);
         let host = self.random_host();
         self.serve(host, 40);
         self.end_command();
@@ -100,7 +101,7 @@ impl Generator {
         self.choose_transfer_wires();
         let near_index = self.plan.length - self.random.between(0, 6);
         self.put_head(near_index);
-        self.load(0, byte);
+        self.command(byte);
         let whole = self.plan.length <= SHORT_TRACK && !self.random.one_in(3);
         let rounds = if whole {
             MOST_ROUNDS

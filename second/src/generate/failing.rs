@@ -2,7 +2,6 @@
 
 use super::{Generator, HEAD_LOADED, READY};
 use crate::field::FLAG;
-use crate::layout;
 
 /// Commands that look for an ID of this track and sector.
 const SEARCHES: [u8; 5] = [0x80, 0x82, 0xA0, 0x90, 0x14];
@@ -14,11 +13,11 @@ impl Generator {
     /// Force Interrupt ends the command with bit 3 on or off, and another command is loaded.
     pub fn bad_id_scene(&mut self) {
         let number = self.random.byte();
-        let mut cells = self.id_of(number);
+        let mut cells = self.short_id(number);
         let spoilt = cells.len() - 1 - self.random.pick(&[0, 0, 1, 3]);
         cells[spoilt] ^= self.random.pick(&[1, 1, FLAG]);
         if self.random.one_in(3) {
-            cells.extend(self.id_of(number));
+            cells.extend(self.short_id(number));
         }
         let room = self.plan.length - cells.len();
         let place = self.random.below(room);
@@ -29,21 +28,17 @@ impl Generator {
         let byte = self.random.pick(&SEARCHES);
         let before = self.byte_times_before_search(byte);
         self.put_head(place + self.plan.length - before);
-        self.load(0, byte);
+        self.command(byte);
         let beyond = self.random.pick(&[0, 0, 3, 50]);
         self.go(before + cells.len() + beyond);
         self.force_and_load();
-    }
-
-    fn id_of(&self, number: u8) -> Vec<u16> {
-        layout::id_cells(self.plan.density, [self.plan.track, 0, number, 0])
     }
 
     fn force_and_load(&mut self) {
         let force = self.random.pick(&[0xD0, 0xD4]);
         self.load(0, force);
         let next = self.random.pick(&NEXT);
-        self.load(0, next);
+        self.command(next);
         self.byte_time();
         self.load(0, 0xD0);
     }

@@ -1,6 +1,6 @@
 // Scenes of Force Interrupt: in every activity, with every nibble, and the wait that follows.
 
-use super::{Generator, Sector, HEAD_LOADED, READY};
+use super::{Generator, HEAD_LOADED, READY};
 use crate::activity::Activity;
 use crate::random::Random;
 
@@ -58,7 +58,7 @@ impl Generator {
             self.random.below(self.plan.length)
         };
         let number = self.random.byte();
-        self.lay_sector(place, Sector::short(number));
+        self.lay_sector(place, self.short_sector(number));
         self.ask_for(number);
         self.load(3, self.plan.track.wrapping_add(2));
         self.set_wires(READY | HEAD_LOADED);
@@ -78,7 +78,7 @@ impl Generator {
         };
         self.put_head(head);
         let byte = self.random.pick(commands);
-        self.load(0, byte);
+        self.command(byte);
     }
 
     /// Byte times until the activity is the wanted one, and at times some more of them.

@@ -27,7 +27,9 @@ impl Generator {
     fn format_frame(&self, sector: u8) -> Vec<u8> {
         let mut bytes = vec![0; 6];
         bytes.extend(self.format_mark(0xFE));
-        bytes.extend([self.plan.track, 0, sector, 0, CRC_BYTE, CRC_BYTE]);
+        let code = self.plan.code_of(128);
+        bytes.extend([self.plan.track, self.plan.side, sector, code]);
+        bytes.extend([CRC_BYTE, CRC_BYTE]);
         bytes.resize(bytes.len() + 12, 0x4E);
         bytes.extend(self.format_mark(if sector % 4 == 3 { 0xF8 } else { 0xFB }));
         bytes.resize(bytes.len() + 128, 0xE5);

@@ -22,11 +22,11 @@ impl Generator {
         self.byte_time();
         self.load(0, 0xD0);
         match self.random.below(5) {
-            0 => self.load(0, 0xF0),
-            1 => self.load(0, 0x84),
+            0 => self.command(0xF0),
+            1 => self.command(0x84),
             2 => {
                 self.set_wires(HEAD_LOADED);
-                self.load(0, 0x80);
+                self.command(0x80);
                 self.set_wires(READY | HEAD_LOADED);
             }
             _ => {

@@ -1,18 +1,29 @@
 // Calls that are refused, each followed by lines that put things right again.
 
 use super::{Generator, NO_LIMIT};
+use crate::chip::Chip;
 use crate::command::Command;
 use crate::field::LARGEST_CELL;
 use crate::machine::LONGEST_TRACK;
 
-/// The 58 bytes that are no commands.
-pub fn no_commands() -> Vec<u8> {
+/// The bytes that are no commands of the chip.
+pub fn no_commands(chip: Chip) -> Vec<u8> {
     (0x00..=0xFF)
-        .filter(|&byte| Command::decode(byte).is_none())
+        .filter(|&byte| Command::decode(byte, chip).is_none())
         .collect()
 }
 
+/// Of the command bytes these alone are taken while Busy.
+pub fn is_force(byte: u8) -> bool {
+    (0xD0..=0xDF).contains(&byte)
+}
+
 impl Generator {
+    /// Any byte that is no command of the machine's chip.
+    pub fn no_command(&mut self) -> u8 {
+        self.random.pick(&no_commands(self.chip()))
+    }
+
     pub fn refusing_scene(&mut self) {
         for _ in 0..self.random.between(1, 4) {
             self.refuse_something();
@@ -143,11 +154,10 @@ impl Generator {
         if self.is_busy() {
             let register = self.random.pick(&[0, 0, 1, 2]);
             let byte = self.random.byte();
-            // Of the command bytes D0-DF alone are taken; this leaves none of them.
-            let is_taken = Command::decode(byte).map_or(false, Command::forces);
-            self.load(register, if is_taken { byte ^ 0x80 } else { byte });
+            // Here none is to be taken.
+            self.load(register, if is_force(byte) { byte ^ 0x80 } else { byte });
         } else {
-            let byte = self.random.pick(&no_commands());
+            let byte = self.no_command();
             self.load(0, byte);
         }
     }

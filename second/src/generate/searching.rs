@@ -26,7 +26,7 @@ impl Generator {
         let first = self.random.pick(&[0, 0, 1, 1, 2]);
         let before = self.byte_times_before_search(byte);
         self.put_head(first + 2 * self.plan.length - before);
-        self.load(0, byte);
+        self.command(byte);
         self.go(before);
     }
 
@@ -38,7 +38,7 @@ impl Generator {
         self.begin_in_vain();
         let rounds = 3 + usize::from(self.bench.machine.position > 0);
         self.go(rounds * self.plan.length + self.plan.length / 2);
-        let id = layout::id_cells(self.plan.density, [self.plan.track, 0, 1, 0]);
+        let id = self.short_id(1);
         let last = self.random.pick(&[0, 0, ID_CELLS, 1]);
         let mut laid = row.clone();
         layout::put(&mut laid, self.plan.length + 1 + last - id.len(), &id);
@@ -57,7 +57,7 @@ impl Generator {
         let sector = Sector {
             mark: self.random.pick(&[0xFB, 0xF8]),
             mark_at: self.random.pick(&[window, window + 1]),
-            ..Sector::short(number)
+            ..self.short_sector(number)
         };
         let mut cells = self.sector_cells(sector);
         if self.random.one_in(2) {
@@ -70,14 +70,14 @@ impl Generator {
         self.ask_for(number);
         self.set_wires(READY | HEAD_LOADED);
         self.put_head(place);
-        self.load(0, 0x80);
+        self.command(0x80);
         self.serve(Host::Prompt, 4);
         self.end_command();
     }
 
     /// Read Address of an ID some of whose cells are flagged, or whose CRC is bad.
     pub fn odd_address_scene(&mut self) {
-        let mut cells = layout::id_cells(self.plan.density, [self.plan.track, 0, 3, 0]);
+        let mut cells = self.short_id(3);
         let last = cells.len() - 1;
         let cell = self.random.pick(&[0x100, 0x001, 0x180]);
         cells[last - self.random.below(6)] ^= cell;
@@ -88,7 +88,7 @@ impl Generator {
         self.load(2, 9);
         self.set_wires(READY | HEAD_LOADED);
         self.put_head(place);
-        self.load(0, 0xC0);
+        self.command(0xC0);
         let host = self.random_host();
         self.serve(host, 8);
         self.end_command();

@@ -1,6 +1,6 @@
 // Scenes of settling, passed in runs, and what comes right after it.
 
-use super::{Generator, Sector, HEAD_LOADED, READY};
+use super::{Generator, HEAD_LOADED, READY};
 use crate::activity::Activity;
 
 /// Commands that settle and then look for an ID or for the index pulse.
@@ -28,7 +28,7 @@ impl Generator {
             0xE4 | 0xF4 => 0,
             _ => self.edge_place(),
         };
-        self.lay_sector(place, Sector::short(number));
+        self.lay_sector(place, self.short_sector(number));
         self.ask_for(number);
         self.load(3, self.plan.track);
         let wires = self.random.pick(&[READY, READY | HEAD_LOADED]);
@@ -36,7 +36,7 @@ impl Generator {
         let off = self.random.below(3);
         let before = self.byte_times_before_search(byte);
         self.put_head(place + self.plan.length + 1 - off - before);
-        self.load(0, byte);
+        self.command(byte);
         self.read(3);
         self.settle_in_runs();
         self.set_wires(READY | HEAD_LOADED);

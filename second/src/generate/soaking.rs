@@ -11,10 +11,13 @@ const SHORT_RUN: usize = 4;
 const TYPE_ONE_TURNS: u64 = 6;
 
 impl Generator {
-    /// What some scripts in a row must meet completely: each Type I command. Of the others there
-    /// are fewer, and chance gives them all.
+    /// What some scripts in a row must meet completely: each Type I command, half of a script's on
+    /// each chip. Of the others there are fewer, and chance gives them all.
     pub fn take_soaking_turns(&mut self, seed: u64) {
         for turn in 0..TYPE_ONE_TURNS {
+            if turn == TYPE_ONE_TURNS / 2 {
+                self.change_chip();
+            }
             let number = seed.wrapping_mul(TYPE_ONE_TURNS).wrapping_add(turn);
             self.command_stretch((number % 0x80) as u8);
         }
@@ -48,18 +51,13 @@ impl Generator {
                 let loading = self.random.pick(&accepting::loadings());
                 self.loading_scene(loading);
             }
-            35..=38 => {
+            35..=40 => {
                 let scene = self.random.pick(&SHORT_SCENES);
                 scene(self);
             }
+            41..=43 => self.side_scene(),
             _ => self.stretching_scene(),
         }
-    }
-
-    /// Another length and density; what was written on the old row is shown before it goes.
-    pub fn new_ring(&mut self) {
-        self.show_row();
-        self.power_on();
     }
 
     /// Write Track by a host that looks at DRQ after every few byte times, for so many rounds.
@@ -68,7 +66,7 @@ impl Generator {
         let before = self.random.between(0, 40);
         self.put_head(self.plan.length - before);
         let byte = self.random.pick(&[0xF0, 0xF0, 0xF0, 0xF4]);
-        self.load(0, byte);
+        self.command(byte);
         let misses_one_in = self.random.pick(&[8, 40, 400]);
         for _ in 0..rounds {
             if !self.is_busy() {

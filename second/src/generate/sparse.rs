@@ -1,6 +1,6 @@
 // Tracks that are mostly gap, so that most byte times of a search on them are uneventful.
 
-use super::{Generator, Sector};
+use super::Generator;
 use crate::field;
 use crate::layout;
 
@@ -37,7 +37,7 @@ impl Generator {
         let density = self.plan.density;
         let mark = self.random.pick(&[0xFE, 0xFE, 0xFB, 0xF8, 0xFC]);
         let number = self.plan.first_sector.wrapping_add(self.random.byte() % 4);
-        let mut id = layout::id_cells(density, [self.plan.track, 0, number, 0]);
+        let mut id = self.short_id(number);
         match self.random.below(5) {
             0 => vec![self.flagged()],
             1 => field::mark_cells(density, mark),
@@ -47,7 +47,7 @@ impl Generator {
                 id
             }
             3 => id,
-            _ => self.sector_cells(Sector::short(number)),
+            _ => self.sector_cells(self.short_sector(number)),
         }
     }
 }

@@ -1,8 +1,9 @@
 // Scenes of long waits, idle, settling and searching, cut into runs.
 
 use super::commands::sector_commands;
-use super::{Generator, Sector, HEAD_LOADED, NO_LIMIT, PROTECT, READY, TRACK_0};
+use super::{Generator, HEAD_LOADED, NO_LIMIT, PROTECT, READY, TRACK_0};
 use crate::activity::Activity;
+use crate::command::Name;
 
 /// V of a Type I command.
 const VERIFY: u8 = 4;
@@ -51,7 +52,7 @@ impl Generator {
         self.set_the_scene(0);
         if self.random.one_in(4) {
             self.set_wires(READY | HEAD_LOADED);
-            self.load(0, 0xF0);
+            self.command(0xF0);
         }
         let byte = self.random.between(0xD0, 0xDF) as u8;
         self.load(0, byte);
@@ -100,8 +101,11 @@ impl Generator {
             0 => self.random.below(0x80) as u8,
             1 | 2 => self.random.below(0x80) as u8 | VERIFY,
             3..=5 => self.random.pick(&sector_commands()),
-            6 => self.random.pick(&[0xC0, 0xC4]),
-            _ => self.random.pick(&[0xE0, 0xE4, 0xF0, 0xF4]),
+            6 => self.command_named(Name::ReadAddress),
+            _ => {
+                let name = self.random.pick(&[Name::ReadTrack, Name::WriteTrack]);
+                self.command_named(name)
+            }
         }
     }
 
@@ -147,11 +151,11 @@ impl Generator {
     fn unserved_stretch(&mut self) {
         let place = self.edge_place();
         let number = self.random.byte();
-        self.lay_sector(place, Sector::short(number));
+        self.lay_sector(place, self.short_sector(number));
         self.ask_for(number);
         self.set_wires(READY | HEAD_LOADED);
         self.put_head(place);
-        self.load(0, 0x90);
+        self.command(0x90);
         for _ in 0..UNSERVED_RUNS {
             self.go(NO_LIMIT);
         }

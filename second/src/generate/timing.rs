@@ -13,48 +13,48 @@ pub const BEGINNINGS: [u8; 12] = [
 /// Those of them that settle.
 pub const SETTLINGS: [u8; 8] = [0x84, 0x14, 0xA4, 0x1C, 0xC4, 0x14, 0xF4, 0x1C];
 
-/// Commands and length codes; the long records are rarer, since each byte takes two lines.
-pub const RECORDS: [(u8, u8); 16] = [
-    (0x80, 0),
-    (0xA0, 0),
-    (0x80, 1),
-    (0xA1, 1),
-    (0x80, 0),
-    (0xA1, 0),
-    (0x80, 2),
-    (0xA0, 2),
-    (0x80, 0),
-    (0xA0, 0),
-    (0x80, 1),
-    (0xA0, 1),
-    (0x80, 0),
-    (0xA1, 0),
-    (0x80, 3),
-    (0xA1, 3),
+/// Commands and bytes of a record; the long records are rarer, since each byte takes two lines.
+pub const RECORDS: [(u8, usize); 16] = [
+    (0x80, 128),
+    (0xA0, 128),
+    (0x80, 256),
+    (0xA1, 256),
+    (0x80, 128),
+    (0xA1, 128),
+    (0x80, 512),
+    (0xA0, 512),
+    (0x80, 128),
+    (0xA0, 128),
+    (0x80, 256),
+    (0xA0, 256),
+    (0x80, 128),
+    (0xA1, 128),
+    (0x80, 1024),
+    (0xA1, 1024),
 ];
 
 impl Generator {
     /// A sound record of some length, its mark well inside the window or at its end or just past
     /// it, read or written by a host that is always in time.
-    pub fn record_scene(&mut self, record: (u8, u8)) {
-        let (byte, code) = record;
+    pub fn record_scene(&mut self, record: (u8, usize)) {
+        let (byte, size) = record;
         let window = self.plan.density.window();
-        let mark_at = match code {
-            0 => self.random.pick(&[15, window, window + 1]),
+        let mark_at = match size {
+            128 => self.random.pick(&[15, window, window + 1]),
             _ => 15,
         };
         let number = self.random.byte();
         let place = self.random.below(self.plan.length);
         let sector = Sector {
-            code,
+            size,
             mark_at,
-            ..Sector::short(number)
+            ..self.short_sector(number)
         };
         self.lay_sector(place, sector);
         self.ask_for(number);
         self.set_wires(READY | HEAD_LOADED);
         self.put_head(place);
-        self.load(0, byte);
+        self.command(byte);
         self.serve(Host::Prompt, 1200);
         self.end_command();
     }
@@ -70,7 +70,7 @@ impl Generator {
         };
         if !for_index {
             let number = self.random.byte();
-            self.lay_sector(place, Sector::short(number));
+            self.lay_sector(place, self.short_sector(number));
             self.ask_for(number);
         }
         self.load(3, self.plan.track);
@@ -81,7 +81,7 @@ impl Generator {
         if self.random.one_in(3) {
             self.begin_with_head_late(byte, before);
         } else {
-            self.load(0, byte);
+            self.command(byte);
         }
         if self.random.one_in(3) {
             self.go(before + 1);
@@ -112,7 +112,7 @@ impl Generator {
     /// HLT comes on just as the settling ends, or one byte time before or after.
     fn begin_with_head_late(&mut self, byte: u8, before: usize) {
         self.set_wires(READY);
-        self.load(0, byte);
+        self.command(byte);
         let around = self.random.below(4);
         self.go((before + around).saturating_sub(1));
         self.set_wires(READY | HEAD_LOADED);
@@ -124,15 +124,15 @@ impl Generator {
         self.set_wires(READY | HEAD_LOADED);
         let waiting = if self.random.one_in(3) {
             self.put_head(self.plan.length - 4);
-            self.load(0, 0xF0);
+            self.command(0xF0);
             self.random.between(2, 5)
         } else {
             let place = self.random.below(self.plan.length);
             let number = self.random.byte();
-            self.lay_sector(place, Sector::short(number));
+            self.lay_sector(place, self.short_sector(number));
             self.ask_for(number);
             self.put_head(place);
-            self.load(0, 0xA0);
+            self.command(0xA0);
             self.go(60);
             self.random.between(6, 9)
         };

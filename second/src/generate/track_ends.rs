@@ -17,7 +17,7 @@ impl Generator {
     pub fn read_ends_scene(&mut self) {
         self.set_wires(READY | HEAD_LOADED);
         self.put_head(self.plan.length - 1);
-        self.load(0, 0xE0);
+        self.command(0xE0);
         self.go(2);
         for _ in 0..3 {
             self.serve_read();
@@ -40,7 +40,7 @@ impl Generator {
     pub fn unserved_track_scene(&mut self) {
         self.set_wires(READY | HEAD_LOADED);
         self.put_head(self.plan.length - 2);
-        self.load(0, 0xF0);
+        self.command(0xF0);
         self.go(3);
         self.go(3);
         self.go(3);
@@ -52,7 +52,7 @@ impl Generator {
     pub fn marks_scene(&mut self) {
         self.set_wires(READY | HEAD_LOADED);
         self.put_head(self.plan.length - 1);
-        self.load(0, 0xF0);
+        self.command(0xF0);
         self.write_byte(0xE5);
         self.byte_time();
         if self.random.one_in(2) {

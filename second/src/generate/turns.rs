@@ -3,7 +3,10 @@
 use super::{accepting, commands, forcing, refusing, timing, Generator};
 
 /// Scenes of some lines each.
-pub const SHORT_SCENES: [fn(&mut Generator); 16] = [
+pub const SHORT_SCENES: [fn(&mut Generator); 19] = [
+    Generator::side_output_scene,
+    Generator::side_scene,
+    Generator::side_scene,
     Generator::refused_transfer_scene,
     Generator::edges_scene,
     Generator::direction_scene,
@@ -29,21 +32,24 @@ const NO_CHAIN_ONE_IN: u64 = 3;
 const VIEW_ONE_IN: u64 = 4;
 
 impl Generator {
-    /// Each byte that is no command, each Type I command and each sector command; each length read
-    /// and written; each command that settles; each Force Interrupt in each activity; each command
-    /// with DRQ, INTRQ and each condition off and on. And every short scene.
+    /// Each byte that is no command, on both chips. On one of them each Type I command and each
+    /// sector command; each length read and written; each command that settles; each Force
+    /// Interrupt in each activity. On the other each command with DRQ, INTRQ and each condition off
+    /// and on, and every short scene.
     pub fn take_turns(&mut self, seed: u64) {
-        self.load(0, in_turn(&refusing::no_commands(), seed));
+        self.load_no_command(seed);
         let type_one: Vec<u8> = (0x00..0x80).collect();
         self.stepping_scene(in_turn(&type_one, seed));
         self.sector_scene(in_turn(&commands::sector_commands(), seed));
         self.record_scene(in_turn(&timing::RECORDS, seed));
         self.beginning_scene(in_turn(&timing::BEGINNINGS, seed));
         self.beginning_scene(in_turn(&timing::SETTLINGS, seed));
+        self.forcing_scene(in_turn(&forcing::pairs(), seed));
+        self.change_chip();
+        self.load_no_command(seed);
         if seed % NO_CHAIN_ONE_IN != 0 {
             self.chain_scene();
         }
-        self.forcing_scene(in_turn(&forcing::pairs(), seed));
         for turn in 0..LOADINGS {
             let number = seed.wrapping_mul(LOADINGS).wrapping_add(turn);
             self.loading_scene(in_turn(&accepting::loadings(), number));
@@ -54,6 +60,10 @@ impl Generator {
         if seed % VIEW_ONE_IN == 0 {
             self.viewing_scene();
         }
+    }
+
+    fn load_no_command(&mut self, seed: u64) {
+        self.load(0, in_turn(&refusing::no_commands(self.chip()), seed));
     }
 }
 

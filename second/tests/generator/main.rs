@@ -1,5 +1,6 @@
 // What the generator's scripts are like, and that together they meet everything they should.
 
+mod chips;
 mod met;
 mod runs;
 mod stretches;
@@ -8,7 +9,6 @@ use std::collections::BTreeMap;
 
 use met::Met;
 use second::bench::{self, Bench};
-use second::command::Command;
 use second::generate;
 
 const SEEDS: u64 = 300;
@@ -117,13 +117,7 @@ fn wanted() -> Vec<String> {
         keys.extend(both.map(|key| format!("{} {}", key, density)));
         keys.extend((0xF4..=0xFFu8).map(|byte| format!("formatted {:02X} {}", byte, density)));
     }
-    for byte in (0..=255u8).filter(|byte| !(0xD0..=0xDF).contains(byte)) {
-        let kind = match Command::decode(byte) {
-            Some(_) => "command",
-            None => "no command",
-        };
-        keys.push(format!("{} {:02X}", kind, byte));
-    }
+    keys.extend((0x00..0x80u8).map(|byte| format!("command {:02X}", byte)));
     for byte in 0xD0..=0xDFu8 {
         keys.extend(
             ACTIVITIES
@@ -163,7 +157,8 @@ fn met_by_fewer(keys: Vec<String>, scripts: usize) -> Vec<String> {
 
 #[test]
 fn together_the_scripts_meet_everything_they_should() {
-    assert_eq!(met_by_fewer(wanted(), 1), Vec::<String>::new());
+    let keys = [wanted(), chips::wanted()].concat();
+    assert_eq!(met_by_fewer(keys, 1), Vec::<String>::new());
 }
 
 /// Every command with DRQ, INTRQ and each condition off and on; and while Busy, when INTRQ and the

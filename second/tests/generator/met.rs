@@ -4,9 +4,10 @@ use std::collections::BTreeSet;
 
 use second::activity::Activity;
 use second::bench::Bench;
+use second::chip::Chip;
 use second::command::Command;
 use second::density::Density;
-use second::field;
+use second::field::{self, Id};
 use second::lines::Lines;
 use second::machine::{Machine, SHORTEST_TRACK};
 use second::number;
@@ -53,6 +54,13 @@ impl Before {
     }
 }
 
+pub fn chip_name(chip: Chip) -> &'static str {
+    match chip {
+        Chip::Wd1793 => "1793",
+        Chip::Wd1797 => "1797",
+    }
+}
+
 fn density_name(density: Density) -> &'static str {
     match density {
         Density::Fm => "FM",
@@ -90,12 +98,15 @@ impl Met {
         let printed = match (line.letter, line.numbers.as_slice()) {
             (b'G', &[limit]) => self.watch_run(bench, limit),
             (b'B', []) => self.watch_run(bench, 1),
-            _ => bench.carry_out(line).unwrap_or_else(|| "error".to_string()),
+            _ => bench.carry_out(line).unwrap_or_default(),
         };
         let letter = char::from(line.letter);
         if "PWRBGQ".contains(letter) {
             let number = printed.get(2..4).unwrap_or("bad");
             self.note(format!("{} {}", letter, number));
+            if let (b'P', [_, _, rest @ ..]) = (line.letter, line.numbers.as_slice()) {
+                self.note(format!("P {} of chip {:X?}", number, rest));
+            }
         }
         self.note_status(&bench.machine, bench.lines);
     }
@@ -111,7 +122,7 @@ impl Met {
         let mut passed = 0;
         while number == number::DONE && passed < limit {
             let before = Before::of(&bench.machine);
-            let fallback = Machine::power_on(SHORTEST_TRACK, Density::Fm).machine;
+            let fallback = Machine::power_on(Chip::Wd1793, SHORTEST_TRACK, Density::Fm).machine;
             let machine = std::mem::replace(&mut bench.machine, fallback);
             let answer = machine.byte_time(&mut bench.current, bench.lines);
             bench.machine = answer.machine;
@@ -144,22 +155,27 @@ impl Met {
 
     fn note_command(&mut self, bench: &Bench, byte: u8) {
         let machine = &bench.machine;
-        if let Some(command) = Command::decode(byte) {
+        let command = Command::decode(byte, machine.chip);
+        if let Some(command) = command {
             self.note_wires(machine, command);
         }
         let activity = machine.activity.name();
-        let density = density_name(machine.density);
-        match Command::decode(byte) {
+        let (chip, density) = (chip_name(machine.chip), density_name(machine.density));
+        match command {
             Some(_) if (0xD0..=0xDF).contains(&byte) => {
                 self.note(format!("forced {:02X} in {}", byte, activity));
                 self.note(format!("command {:02X} {}", byte, density));
             }
             Some(command) if !machine.is_busy() => {
                 self.note(format!("command {:02X}", byte));
+                self.note(format!("command {:02X} of the {}", byte, chip));
                 self.note(format!("{:?} {}", command.name, density));
                 self.note_matches(bench, command);
+                self.note_side_output(machine, command, bench.lines);
             }
-            None if !machine.is_busy() => self.note(format!("no command {:02X}", byte)),
+            None if !machine.is_busy() => {
+                self.note(format!("no command {:02X} of the {}", byte, chip));
+            }
             _ => {}
         }
     }
@@ -181,16 +197,46 @@ impl Met {
         }
     }
 
-    /// Several IDs of the wanted track and sector on the ring.
+    /// Several IDs of the wanted track and sector on the ring, and their sides.
     fn note_matches(&mut self, bench: &Bench, command: Command) {
         let machine = &bench.machine;
-        let matching = (10..=bench.current.len())
+        let matching: Vec<Id> = (10..=bench.current.len())
             .filter_map(|end| field::id_at_end(machine.density, &bench.current[..end]))
             .filter(|id| id.track == machine.track && id.sector == machine.sector)
-            .count();
-        if matching > 1 {
+            .collect();
+        if matching.len() > 1 {
             self.note(format!("several matches for {:?}", command.name));
         }
+        for id in matching {
+            let (chip, name) = (chip_name(machine.chip), command.name);
+            self.note(match command.side_asked {
+                None => format!("{:?} of the {}, any side asked", name, chip),
+                Some(side) => format!(
+                    "{:?} of the {}, side {} asked, {} there",
+                    name,
+                    chip,
+                    side,
+                    side_name(id.side)
+                ),
+            });
+        }
+    }
+
+    /// What a command of a 1797 does to the side output, and how it begins.
+    fn note_side_output(&mut self, machine: &Machine, command: Command, lines: Lines) {
+        let side = match command.side_output {
+            Some(side) => side,
+            None => return,
+        };
+        let begins = match (lines.ready, lines.protect && command.writes()) {
+            (false, _) => "not ready",
+            (true, true) => "protected",
+            (true, false) => "taken up",
+        };
+        self.note(format!(
+            "{:?} {}, side output from {} to {}",
+            command.name, begins, machine.side_output, side
+        ));
     }
 
     fn note_status(&mut self, machine: &Machine, lines: Lines) {
@@ -262,13 +308,13 @@ impl Met {
         let density = density_name(machine.density);
         match &machine.activity {
             Activity::ReadingRecord(read) => {
-                self.note(format!("read {} {}", read.size, density));
+                self.note_record("read", read.size, read.command, machine);
                 if before.in_window + 1 == machine.density.window() {
                     self.note(format!("mark at the window's end {}", density));
                 }
             }
             Activity::WritingRecord(write) => {
-                self.note(format!("write {} {}", write.size, density))
+                self.note_record("write", write.size, write.command, machine);
             }
             Activity::Searching(_) if before.sector == 255 && machine.sector == 0 => {
                 self.note("SR from 255 to 0".to_string());
@@ -276,6 +322,13 @@ impl Met {
             Activity::Idle => self.note_end(before, bench),
             _ => {}
         }
+    }
+
+    fn note_record(&mut self, done: &str, size: usize, command: Command, machine: &Machine) {
+        let (chip, density) = (chip_name(machine.chip), density_name(machine.density));
+        self.note(format!("{} {} {}", done, size, density));
+        let codes = command.length_codes;
+        self.note(format!("{} {} {:?} of the {}", done, size, codes, chip));
     }
 
     fn note_end(&mut self, before: &Before, bench: &Bench) {
@@ -290,6 +343,15 @@ impl Met {
         if before.name == "AwaitingDataMark" && mark_is_next(bench) {
             self.note(format!("mark past the window's end {}", density));
         }
+    }
+}
+
+/// A side, or that it is none that a command can ask for.
+fn side_name(side: u8) -> &'static str {
+    match side {
+        0 => "side 0",
+        1 => "side 1",
+        _ => "another byte",
     }
 }
 

@@ -1,8 +1,9 @@
 // That the scripts put every edge in the way of a shortcut over uneventful byte times.
 
-use crate::met::Met;
+use crate::met::{chip_name, Met};
 use crate::runs::Runs;
 use second::bench::Bench;
+use second::chip::Chip;
 use second::command::Command;
 use second::generate;
 
@@ -102,13 +103,23 @@ fn a_soak_gives_every_command() {
         met.watch_script(Bench::new(), &long.text);
     }
     let mut keys: Vec<String> = Vec::new();
-    for byte in (0..=255).filter(|&byte| Command::decode(byte).is_some()) {
+    for byte in 0..=255 {
         match byte {
+            0x00..=0x7F => keys.push(format!("command {:02X}", byte)),
             0xD0..=0xDF => keys
                 .extend(["FM", "MFM"].map(|density| format!("command {:02X} {}", byte, density))),
-            _ => keys.push(format!("command {:02X}", byte)),
+            _ => keys.extend(chips_with(byte)),
         }
     }
     keys.retain(|key| !met.has(key));
     assert_eq!(keys, Vec::<String>::new());
+}
+
+/// The byte on each chip that has it as a command.
+fn chips_with(byte: u8) -> Vec<String> {
+    let chips = Chip::BOTH.into_iter();
+    let having = chips.filter(|&chip| Command::decode(byte, chip).is_some());
+    having
+        .map(|chip| format!("command {:02X} of the {}", byte, chip_name(chip)))
+        .collect()
 }

@@ -1,6 +1,7 @@
 // Registers, refusals and their order, acceptance, and Force Interrupt.
 
 use second::activity::{Activity, RecordWrite, Settling};
+use second::chip::Chip;
 use second::command::Command;
 use second::layout;
 use second::lines::Lines;
@@ -114,7 +115,7 @@ fn a_run_stopped_by_4_keeps_earlier_writes() {
 
 #[test]
 fn a_count_above_the_largest_is_2() {
-    let command = Command::decode(0x84).expect("84 is a command");
+    let command = Command::decode(0x84, Chip::Wd1793).expect("84 is a command");
     for (left, expected) in [(938, number::DONE), (939, number::MACHINE)] {
         let mut desk = Desk::new(Mfm);
         desk.machine.activity = Activity::Settling(Settling { command, left });
@@ -127,7 +128,7 @@ fn a_machine_grown_from_power_on_reaches_the_largest_counts() {
     let mut desk = Desk::new(Mfm);
     desk.put_id_before(100, [0, 0, 1, 3]);
     desk.command(0xA4);
-    let command = Command::decode(0xA4).expect("A4 is a command");
+    let command = Command::decode(0xA4, Chip::Wd1793).expect("A4 is a command");
     let settling = Settling { command, left: 938 };
     assert_eq!(desk.machine.activity, Activity::Settling(settling));
     desk.byte_times(2048 + 102);

@@ -1,6 +1,6 @@
 // The cases and the easy slips of document 01.
 
-use second::command::Command;
+use second::chip::Chip;
 use second::crc;
 use second::density::Density;
 use second::field;
@@ -12,9 +12,9 @@ use crate::desk::{Desk, Fm, Mfm, BOTH};
 
 #[test]
 fn a_length_out_of_range_leaves_the_fm_machine_of_2048() {
-    let fallback = Machine::power_on(2048, Fm).machine;
+    let fallback = Machine::power_on(Chip::Wd1793, 2048, Fm).machine;
     for length in [0, 2047, 6401, 65_535] {
-        let answer = Machine::power_on(length, Mfm);
+        let answer = Machine::power_on(Chip::Wd1793, length, Mfm);
         assert_eq!(answer.number, number::LENGTH);
         assert_eq!(answer.machine, fallback);
     }
@@ -23,7 +23,7 @@ fn a_length_out_of_range_leaves_the_fm_machine_of_2048() {
 #[test]
 fn lengths_2048_and_6400_are_taken() {
     for length in [2048, 6400] {
-        let answer = Machine::power_on(length, Mfm);
+        let answer = Machine::power_on(Chip::Wd1793, length, Mfm);
         assert_eq!(answer.number, number::DONE);
         assert_eq!(answer.machine.length, length);
         assert_eq!(answer.machine.density, Mfm);
@@ -43,12 +43,6 @@ fn commands_80_and_c4_are_accepted_9f_and_c3_refused() {
         assert_eq!(desk.try_load(0, byte), number::NO_COMMAND);
         assert_eq!(desk.status() & BUSY, 0);
     }
-}
-
-#[test]
-fn fifty_eight_bytes_are_no_commands() {
-    let refused = (0..=255).filter(|&byte| Command::decode(byte).is_none());
-    assert_eq!(refused.count(), 58);
 }
 
 #[test]

@@ -1,5 +1,6 @@
 // A controller with a track and drive lines beside it, as a test works it.
 
+use second::chip::Chip;
 use second::density::Density;
 use second::layout;
 use second::lines::Lines;
@@ -24,13 +25,21 @@ pub struct Served {
 }
 
 impl Desk {
-    /// A power-on machine of 2,048 cells with an empty track, Ready and HLT on.
+    /// A power-on 1793 of 2,048 cells with an empty track, Ready and HLT on.
     pub fn new(density: Density) -> Desk {
-        Desk::with_length(density, 2048)
+        Desk::with_chip(Chip::Wd1793, density)
+    }
+
+    pub fn with_chip(chip: Chip, density: Density) -> Desk {
+        Desk::power_on(chip, density, 2048)
     }
 
     pub fn with_length(density: Density, length: u16) -> Desk {
-        let answer = Machine::power_on(length, density);
+        Desk::power_on(Chip::Wd1793, density, length)
+    }
+
+    fn power_on(chip: Chip, density: Density, length: u16) -> Desk {
+        let answer = Machine::power_on(chip, length, density);
         assert_eq!(answer.number, number::DONE);
         Desk {
             machine: answer.machine,

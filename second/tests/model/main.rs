@@ -1,9 +1,12 @@
-// The tests of the controller: document 01's cases and refusals, and the decided open points.
+// The tests of the controller: document 01's cases and refusals, the decided open points, and the
+// two chips.
 
 mod calls;
 mod cases;
+mod chips;
 mod desk;
 mod reading;
 mod searching;
+mod sides;
 mod stepping;
 mod writing;

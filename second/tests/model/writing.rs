@@ -14,7 +14,7 @@ fn desk_with_id(density: Density, code: u8) -> Desk {
 }
 
 /// The cells that Write Sector lays after an ID that ends before cell 100.
-fn expected_record(density: Density, mark: u8, data: &[u8]) -> (usize, Vec<u16>) {
+pub fn expected_record(density: Density, mark: u8, data: &[u8]) -> (usize, Vec<u16>) {
     let (first, zeros) = match density {
         Fm => (12, 6),
         Mfm => (23, 12),

@@ -1,97 +1,37 @@
--- `command::decode` meets its contract: at each byte of an arm the definition computes to the arm's answer.
-use mathlib.Core.Bool.{not, _||_}
-use mathlib.Core.List.{[], _∷_}
-use mathlib.Core.Path.{refl, ap}
-use Prim.Native.Nat.{_%_, zero-le}
-use lib.Dec.{eqb}
-use mir.Val.{hasKey}
-use borrow.Author.Tests.{ne-eqb, eq-eqb}
-use Rattle.command.specs.Commands.{decodedOf}
-use Rattle.common.proofs.Arms.{keys, range, range-but, unnamed}
+-- `command::decode` meets its contract, by its tests and its callees' contracts. Assumes nothing.
 use Rattle.command.proofs.decode.Statement.{statement}
+use Rattle.command.specs.Commands.{decodedOf}
+use borrow.Author.Needs.{needs}
+use mathlib.Core.Path.{sym}
 use Rattle.command.proofs.decode.Tie as tie
+
+decode-by-both-requires : tie.Need-decode-by-both-requires
+decode-by-both-requires c κs = search needs
+
+enum-known-decoded : tie.Need-enum-known-decoded
+enum-known-decoded c = search needs
+
+enum-told : tie.Need-enum-told
+enum-told c = search needs
+
+decode-with-u-requires : tie.Need-decode-with-u-requires
+decode-with-u-requires c κs = search needs
 
 returns : tie.Need-returns
 unfolding decodedOf
-returns c = keys decodedOf (0xC0 ∷ 0xC4 ∷ []) refl (c .match .keys1)
+returns c = simp (c .before .decoded .given .1, sym (c .before .before .before .decode-by-both .ensures))
 
 returns-2 : tie.Need-returns-2
 unfolding decodedOf
-returns-2 c = keys decodedOf (0xE0 ∷ 0xE4 ∷ []) refl (c .match .keys2)
-
-returns-3 : tie.Need-returns-3
-unfolding decodedOf
-returns-3 c = keys decodedOf (0xF0 ∷ 0xF4 ∷ []) refl (c .match .keys3)
-
-returns-4 : tie.Need-returns-4
-unfolding decodedOf
-returns-4 c = range decodedOf 0x00 0x10 refl zero-le (c .if2 .taken)
-
-returns-5 : tie.Need-returns-5
-unfolding decodedOf
-returns-5 c = range decodedOf 0x10 0x10 refl (c .before .if2 .left) (c .if3 .taken)
-
-returns-6 : tie.Need-returns-6
-unfolding decodedOf
-returns-6 c = range decodedOf 0x20 0x20 refl (c .before .if3 .left) (c .if4 .taken)
-
-returns-7 : tie.Need-returns-7
-unfolding decodedOf
-returns-7 c = range decodedOf 0x40 0x20 refl (c .before .if4 .left) (c .if5 .taken)
-
-returns-8 : tie.Need-returns-8
-unfolding decodedOf
-returns-8 c = range decodedOf 0x60 0x20 refl (c .if5 .left) (c .before .before .before .before .if1 .taken)
-
-returns-9 : tie.Need-returns-9
-unfolding decodedOf
-returns-9 c =
-    range-but decodedOf (λ k. not (eqb (k % 2) 0)) 0x80 0x20 refl (c .before .before .if1 .left) (c .before .if6 .taken)
-    (ap not (eq-eqb _ _ (c .if7 .taken)))
-
-returns-10 : tie.Need-returns-10
-unfolding decodedOf
-returns-10 c =
-    range-but decodedOf (λ k. eqb (k % 2) 0) 0x80 0x20 refl (c .before .before .if1 .left) (c .before .if6 .taken)
-    (ne-eqb _ _ (c .if7 .left))
-
-returns-11 : tie.Need-returns-11
-unfolding decodedOf
-returns-11 c = range decodedOf 0xA0 0x20 refl (c .before .if6 .left) (c .if8 .taken)
-
-returns-12 : tie.Need-returns-12
-unfolding decodedOf
-returns-12 c = range decodedOf 0xD0 0x10 refl (c .before .if9 .left) (c .if10 .taken)
-
-returns-13 : tie.Need-returns-13
-unfolding decodedOf
-returns-13 c =
-    range-but decodedOf (hasKey (0xC0 ∷ 0xC4 ∷ [])) 0xC0 0x10 refl (c .before .if8 .left) (c .if9 .taken)
-    (unnamed (0xC0 ∷ 0xC4 ∷ []) _ (c .before .before .before .before .match .rest .0 .0 .1))
-
-returns-14 : tie.Need-returns-14
-unfolding decodedOf
-returns-14 c =
-    let rest = c .before .before .before .before .before .match .rest in
-    range-but decodedOf (λ k. hasKey (0xE0 ∷ 0xE4 ∷ []) k || hasKey (0xF0 ∷ 0xF4 ∷ []) k) 0xE0 0x20 refl (c .if10 .left)
-    (c .before .before .before .before .before .before .fits .byte .fits)
-    (simp (unnamed (0xE0 ∷ 0xE4 ∷ []) _ (rest .0 .1), unnamed (0xF0 ∷ 0xF4 ∷ []) _ (rest .1)))
+returns-2 c = simp (sym (c .decode-with-u .ensures), c .before .enum-told .given .1, sym (c .before .before .before .decode-by-both .ensures))
 
 pub decode-spec : {M : Type 1} → statement M
 decode-spec =
     tie.close
     (tie.spec
+    decode-by-both-requires
+    enum-known-decoded
+    enum-told
+    decode-with-u-requires
     returns
-    returns-2
-    returns-3
-    returns-4
-    returns-5
-    returns-6
-    returns-7
-    returns-8
-    returns-9
-    returns-10
-    returns-11
-    returns-12
-    returns-13
-    returns-14)
+    returns-2)

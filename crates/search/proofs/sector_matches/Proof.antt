@@ -5,15 +5,12 @@ use borrow.Author.Needs.{needs}
 use mathlib.Core.Path.{sym}
 use Rattle.search.proofs.sector_matches.Tie as tie
 
-side-asked-requires : tie.Need-side-asked-requires
-side-asked-requires c κs = search needs
-
 side-matches-requires : tie.Need-side-matches-requires
 side-matches-requires c κs = search needs
 
 returns : tie.Need-returns
 unfolding sectorMatches
-returns c = simp (sym (c .side-matches .ensures), sym (c .before .side-asked .ensures))
+returns c = simp (sym (c .side-matches .ensures))
 
 pub sector-matches-spec : {M : Type 1} → statement M
-sector-matches-spec = tie.close (tie.spec side-asked-requires side-matches-requires returns)
+sector-matches-spec = tie.close (tie.spec side-matches-requires returns)

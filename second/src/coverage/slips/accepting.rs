@@ -24,10 +24,14 @@ const SENTENCES: &[Sentence] = &[
             slip("bit 5 stays", accepts::transfer, leave::deleted),
             slip("bit 6 stays", accepts::transfer, leave_refused),
             slip("DRQ stays (I)", accepts::type_one, leave::data_request),
-            slip("DRQ stays (Read Sector)", accepts_read, leave::data_request),
+            slip(
+                "DRQ stays (Read Sector)",
+                accepts::read_sector,
+                leave::data_request,
+            ),
             slip(
                 "DRQ stays (Write Sector)",
-                accepts_write,
+                accepts::write_sector,
                 leave::data_request,
             ),
             slip(
@@ -49,12 +53,20 @@ const SENTENCES: &[Sentence] = &[
         says: "Types II and III then look: not ready ends it at once with INTRQ; next, a write \
                under protection sets bit 6 and ends it.",
         slips: &[
-            slip("not ready does not end it", ends_at_once, begin_ready),
-            slip("INTRQ stays off", ends_at_once, turn::intrq_off),
-            slip("the head is loaded", ends_at_once, turn::head_on),
+            slip(
+                "not ready does not end it",
+                accepts::ending_at_once,
+                begin_ready,
+            ),
+            slip("INTRQ stays off", accepts::ending_at_once, turn::intrq_off),
+            slip("the head is loaded", accepts::ending_at_once, turn::head_on),
             slip("protection before Ready", refuses_both, turn::bit_6_on),
-            slip("bit 6 stays off", ends_at_once, turn::bit_6_off),
-            slip("it does not end a write", ends_at_once, begin_unprotected),
+            slip("bit 6 stays off", accepts::ending_at_once, turn::bit_6_off),
+            slip(
+                "it does not end a write",
+                accepts::ending_at_once,
+                begin_unprotected,
+            ),
             slip("it ends a read", begins_protected, refuse),
         ],
     },
@@ -100,14 +112,6 @@ const SENTENCES: &[Sentence] = &[
     },
 ];
 
-fn accepts_read(step: &Step) -> bool {
-    accepts::name(step, Name::ReadSector)
-}
-
-fn accepts_write(step: &Step) -> bool {
-    accepts::name(step, Name::WriteSector)
-}
-
 fn accepts_address(step: &Step) -> bool {
     accepts::name(step, Name::ReadAddress)
 }
@@ -129,10 +133,6 @@ fn ends_transfer(step: &Step) -> bool {
     step.ends() && has_transfer_status(step.before)
 }
 
-fn ends_at_once(step: &Step) -> bool {
-    accepts::transfer(step) && !step.right.machine.is_busy()
-}
-
 fn begin_ready(step: &Step, wrong: &mut Outcome) {
     *wrong = step.instead(|_, lines| lines.ready = true);
 }
@@ -144,7 +144,7 @@ fn begin_unprotected(step: &Step, wrong: &mut Outcome) {
 /// Not ready and protection both end a write.
 fn refuses_both(step: &Step) -> bool {
     let lines = step.lines;
-    ends_at_once(step) && step.accepts(Command::writes) && !lines.ready && lines.protect
+    accepts::ending_at_once(step) && step.accepts(Command::writes) && !lines.ready && lines.protect
 }
 
 fn begins_protected(step: &Step) -> bool {

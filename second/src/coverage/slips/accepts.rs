@@ -20,3 +20,20 @@ pub fn name(step: &Step, name: Name) -> bool {
     step.accepted()
         .map_or(false, |command| command.name == name)
 }
+
+pub fn read_sector(step: &Step) -> bool {
+    name(step, Name::ReadSector)
+}
+
+pub fn write_sector(step: &Step) -> bool {
+    name(step, Name::WriteSector)
+}
+
+pub fn type_two(step: &Step) -> bool {
+    step.accepts(Command::is_type_two)
+}
+
+/// A command of Types II and III that ends at once.
+pub fn ending_at_once(step: &Step) -> bool {
+    transfer(step) && !step.right.machine.is_busy()
+}

@@ -70,3 +70,7 @@ pub fn activity(step: &Step, wrong: &mut Outcome) {
 pub fn cell(step: &Step, wrong: &mut Outcome) {
     wrong.cell = step.cell();
 }
+
+pub fn side_output(step: &Step, wrong: &mut Outcome) {
+    wrong.machine.side_output = step.before.side_output;
+}

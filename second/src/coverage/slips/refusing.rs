@@ -196,8 +196,8 @@ fn is_lent_other(step: &Step) -> bool {
 }
 
 fn is_busy_no_command(step: &Step) -> bool {
-    let byte = byte_for(step, 0).filter(|&byte| Command::decode(byte).is_none());
-    is(step, BUSY) && byte.is_some()
+    let is_none = |byte| Command::decode(byte, step.before.chip).is_none();
+    is(step, BUSY) && byte_for(step, 0).map_or(false, is_none)
 }
 
 fn is_over_large_cell(step: &Step) -> bool {

@@ -2,14 +2,11 @@
 
 use super::{leave, slip, turn, Sentence, Subject};
 use crate::activity::{Activity, Search};
+use crate::chip::Chip;
 use crate::command::{Command, Name};
 use crate::coverage::step::{Outcome, Step};
 use crate::field::{self, Id, FLAG, ID_CELLS, ID_MARK};
 use crate::machine::SHORTEST_TRACK;
-
-/// Bits of a sector command.
-const SIDE: u8 = 8;
-const COMPARES_SIDE: u8 = 2;
 
 pub const SUBJECT: Subject = Subject {
     concerns: |step| step.begins().is_some() || step.is_pulse() || step.may_end_id(),
@@ -23,7 +20,9 @@ const SENTENCES: &[Sentence] = &[
     },
     Sentence {
         says: "The two low bits of length give 128, 256, 512, 1,024.",
-        slips: &[slip("other bits give 1,024", meets_long_id, read_1024)],
+        slips: &[slip("other bits give 1,024", meets_long_id, |_, wrong| {
+            wrong.set_size(1024);
+        })],
     },
     Sentence {
         says: "Only cells passing after the search began count.",
@@ -63,9 +62,10 @@ const SENTENCES: &[Sentence] = &[
         slips: &[
             slip("any track", meets_id, match_any_track),
             slip("any sector", meets_id, match_any_sector),
-            slip("any side", meets_id, match_any_side),
-            slip("its side is S without C", meets_id, match_side),
-            slip("its side is 0", meets_id, match_side_0),
+            slip("any side", meets_id_1793, match_any_side),
+            slip("its side is S without C", meets_id_1793, match_side),
+            slip("its side is 0", meets_id_1793, match_side_0),
+            slip("its side's low bit is S", meets_id_1793, match_low_bit),
         ],
     },
     Sentence {
@@ -81,8 +81,13 @@ const SENTENCES: &[Sentence] = &[
 ];
 
 /// An ID ends in the search of a sector command.
-fn meets_id(step: &Step) -> bool {
+pub fn meets_id(step: &Step) -> bool {
     step.id().is_some() && step.searches().map_or(false, Command::is_transfer)
+}
+
+/// The same on a 1793, where bits 3 and 1 are S and C.
+fn meets_id_1793(step: &Step) -> bool {
+    step.before.chip == Chip::Wd1793 && meets_id(step)
 }
 
 /// Whether the command asks for this ID, whatever its CRC.
@@ -113,15 +118,6 @@ fn meets_other_bad_id(step: &Step) -> bool {
 /// Its length byte has more than the two low bits.
 fn meets_long_id(step: &Step) -> bool {
     step.id().map_or(false, |id| id.length > 3)
-}
-
-/// The record that has been found, if one has, is of 1,024 bytes.
-fn read_1024(_: &Step, wrong: &mut Outcome) {
-    match &mut wrong.machine.activity {
-        Activity::AwaitingDataMark(window) => window.size = 1024,
-        Activity::WritingRecord(write) => write.size = 1024,
-        _ => {}
-    }
 }
 
 /// The search, the cells of an ID that could end here without their flags.
@@ -236,22 +232,30 @@ fn match_any_sector(step: &Step, wrong: &mut Outcome) {
     wrong.machine.sector = step.before.sector;
 }
 
-/// Searches in this byte time as for another command byte.
-fn search_as(step: &Step, wrong: &mut Outcome, change: fn(u8) -> u8) {
+/// Searches as for another side from here on, or as for any.
+fn ask_for_side(step: &Step, wrong: &mut Outcome, side: impl Fn(Command) -> Option<u8>) {
     if let Some(mut search) = step.search() {
-        search.command = Command::decode(change(search.command.byte)).unwrap_or(search.command);
+        search.command.side_asked = side(search.command);
         *wrong = step.search_instead(search, step.cell());
     }
 }
 
 fn match_any_side(step: &Step, wrong: &mut Outcome) {
-    search_as(step, wrong, |byte| byte & !COMPARES_SIDE);
+    ask_for_side(step, wrong, |_| None);
 }
 
 fn match_side(step: &Step, wrong: &mut Outcome) {
-    search_as(step, wrong, |byte| byte | COMPARES_SIDE);
+    ask_for_side(step, wrong, |command| Some(command.byte >> 3 & 1));
 }
 
 fn match_side_0(step: &Step, wrong: &mut Outcome) {
-    search_as(step, wrong, |byte| byte & !SIDE);
+    ask_for_side(step, wrong, |command| command.side_asked.map(|_| 0));
+}
+
+/// A side with the low bit of the one that is asked for will do.
+pub fn match_low_bit(step: &Step, wrong: &mut Outcome) {
+    let side = step.id().map_or(0, |id| id.side);
+    ask_for_side(step, wrong, |command| {
+        command.side_asked.map(|asked| side & 0xFE | asked & 1)
+    });
 }

@@ -78,7 +78,7 @@ fn verifies(step: &Step) -> bool {
     is_verify(step.searches())
 }
 
-fn meets_id(step: &Step) -> bool {
+pub fn meets_id(step: &Step) -> bool {
     verifies(step) && step.id().is_some()
 }
 
@@ -99,7 +99,7 @@ fn seek_later(step: &Step, wrong: &mut Outcome) {
 }
 
 /// As if TR were this in this byte time.
-fn seek_track(step: &Step, wrong: &mut Outcome, track: u8) {
+pub fn seek_track(step: &Step, wrong: &mut Outcome, track: u8) {
     *wrong = step.instead(|machine, _| machine.track = track);
     wrong.machine.track = step.before.track;
 }

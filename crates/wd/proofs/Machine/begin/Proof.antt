@@ -11,6 +11,9 @@ class-of-requires c κs = search needs
 held-requires : tie.Need-held-requires
 held-requires c κs = search needs
 
+begin-side-requires : tie.Need-begin-side-requires
+begin-side-requires c κs = search needs
+
 begin-regs-requires : tie.Need-begin-regs-requires
 begin-regs-requires c κs = search needs
 
@@ -37,7 +40,7 @@ begin-activity-requires c κs = search needs
 
 returns : tie.Need-returns
 unfolding commandBegun
-returns c = simp (c .begin-activity .ensures, c .before .order-of .ensures, c .before .before .begin-head .ensures, c .before .before .before .begin-flags .ensures, sym (c .before .before .before .before .busy .ensures), c .before .before .before .before .before .begin-wires .ensures, sym (c .before .before .before .before .before .before .asks .ensures), c .before .before .before .before .before .before .before .begin-regs .ensures, sym (c .before .before .before .before .before .before .before .before .before .held .ensures), c .before .before .before .before .before .before .before .before .before .before .class-of .ensures)
+returns c = simp (sym (c .begin-activity .ensures), sym (c .before .order-of .ensures), sym (c .before .before .begin-head .ensures), sym (c .before .before .before .begin-flags .ensures), sym (c .before .before .before .before .busy .ensures), sym (c .before .before .before .before .before .begin-wires .ensures), sym (c .before .before .before .before .before .before .asks .ensures), sym (c .before .before .before .before .before .before .before .begin-regs .ensures), sym (c .before .before .before .before .before .before .before .before .begin-side .ensures), sym (c .before .before .before .before .before .before .before .before .before .before .held .ensures), sym (c .before .before .before .before .before .before .before .before .before .before .before .class-of .ensures))
 
 pub begin-spec : {M : Type 1} → statement M
 begin-spec =
@@ -45,6 +48,7 @@ begin-spec =
     (tie.spec
     class-of-requires
     held-requires
+    begin-side-requires
     begin-regs-requires
     asks-requires
     begin-wires-requires

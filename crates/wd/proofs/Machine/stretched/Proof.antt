@@ -4,8 +4,8 @@ use Rattle.wd.proofs.Machine.stretched.Statement.{statement}
 use Rattle.wd.specs.Stretches.{afterStretch}
 use Rattle.wd.proofs.Machine.stretched.Tie as tie
 
-add-t11 : tie.Need-add-t11
-add-t11 c = search needs
+add-t12 : tie.Need-add-t12
+add-t12 c = search needs
 
 later-requires : tie.Need-later-requires
 later-requires c κs = search needs
@@ -15,4 +15,4 @@ unfolding afterStretch
 returns c = simp (c .later .ensures)
 
 pub stretched-spec : {M : Type 1} → statement M
-stretched-spec = tie.close (tie.spec add-t11 later-requires returns)
+stretched-spec = tie.close (tie.spec add-t12 later-requires returns)
