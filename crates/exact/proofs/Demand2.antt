@@ -4,11 +4,9 @@ use Prim.Native.Nat.{ℕ, _+_, _<_}
 use native.Mathlib.Omega.{arith}
 use lib.ListN.{length}
 use Rattle.common.proofs.Cases.{never}
-use Rattle.scan.specs.Streams.{idFrom}
 use Rattle.command.specs.Orders.{orderOf}
 use Rattle.command.specs.declared.Command.the-variants.{ReadSector, WriteSector}
 use Rattle.writing.specs.Writing.{markPlace}
-use Rattle.fields.specs.Rings.{cellsOf}
 use Rattle.hosts.specs.Hosts.{servedAt, at}
 use Rattle.hosts.specs.Bytes.{handed}
 use Rattle.hosts.proofs.Intrq.{ends-told}

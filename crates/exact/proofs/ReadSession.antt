@@ -15,14 +15,12 @@ use Rattle.command.specs.declared.Command.the-variants.{ReadSector}
 use Rattle.writing.specs.Writing.{lastKept, markPlace}
 use Rattle.accepting.specs.Accepting.{writes, heldBy}
 use Rattle.fields.specs.Rings.{cellsOf}
-use Rattle.wd.specs.declared.Machine.{Machine}
 use Rattle.hosts.specs.Hosts.{servedAt, at}
-use Rattle.hosts.proofs.Views.{View}
 use Rattle.hosts.proofs.Idling.{left-row}
 use Rattle.hosts.specs.Scenes.{Suits}
 use Rattle.hosts.proofs.Searching.{reads-two}
 use Rattle.hosts.proofs.RingIds.{same-side-suits, IdOnRing}
-use Rattle.hosts.proofs.Working.{TakenUp, given-view}
+use Rattle.hosts.proofs.Working.{TakenUp}
 use Rattle.hosts.proofs.Found.{Lost, searched, lost-none, foundPlace, foundSize, found-on, found-cells}
 use Rattle.hosts.proofs.ReadThrough.{FieldIn, EndedRead, working, heads, FoundId, cellsOn, Meets}
 use Rattle.exact.specs.Demand2.{Session, begun, asked, writeScene, readScene, Commands, FewerPremises, clearCells}

@@ -29,7 +29,7 @@ use Rattle.hosts.proofs.Pulses.{pulseTime, pulse-once}
 use Rattle.in_time.specs.Demand3.{InTimePremises, startOf, OnRing, FifthPulse}
 use Rattle.in_time.proofs.Demand3.{in-time}
 use Rattle.in_time.proofs.Scenes.{reader, sceneOf, scene-asked, fresh, fresh-accepts}
-use Rattle.command.specs.Bits.{settlesFirst, isMultiple, verifiesTrack, sideOf, sideAsked, markWritten}
+use Rattle.command.specs.Bits.{settlesFirst}
 
 -- the fifth pulse on a ring of 2,048 cells
 pub fifth-is : (s : Scene) (from before : ℕ)

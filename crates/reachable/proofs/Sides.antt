@@ -3,7 +3,7 @@ use mathlib.Core.Path.{_≡_, refl, sym, ap, _∙_}
 use mathlib.Core.Bool.{Bool, true, false}
 use mathlib.Core.List.{List}
 use mathlib.Core.Logic.{inl, inr}
-use Prim.Native.Nat.{ℕ, zero, suc, zero-le, _≤_}
+use Prim.Native.Nat.{ℕ, zero, suc, zero-le}
 use native.Mathlib.Omega.{arith}
 use lib.Dec.{ltb, eqb}
 use lib.ListN.{length}
@@ -37,7 +37,7 @@ use Rattle.wd.specs.Rows.{rowRefusal, under, refusedAt, doneBy, byteTime, ranTo
 use Rattle.reachable.specs.Growth.{Grown, power-on, load, read, byte-time, run}
 use Rattle.reachable.specs.Sides.{TypeTwoOrThree, TypeOneOrFour, SideOutput}
 use Rattle.reachable.proofs.AsGiven.{load-machine}
-use Rattle.reachable.proofs.Fixed.{power-on-chip, load-fixed, read-fixed, byte-time-fixed, run-fixed}
+use Rattle.reachable.proofs.Fixed.{load-fixed, read-fixed, byte-time-fixed, run-fixed}
 
 -- ---- commands
 
