@@ -116,7 +116,7 @@ begun-within s Job.WriteTrack = by-cond IsWithin (s .index && not (s .drq)) (λ 
 
 module _ (o : Order) (s : Seen) where
   passed : {a next : Activity} {deed : Deed} → Passes o s a next deed → IsWithin a → IsWithin next
-  unfolding countsWithin scanWithin idStep dataMarkStep afterRecord
+  unfolding countsWithin scanWithin idStep dataMarkStep
   passed Passes.idles h = refl
   passed (Passes.seek-waits e) h = omega tests
   passed (Passes.seek-steps e) h = omega (tests, step-time-most (s .mfm) (o .byte))
@@ -138,7 +138,8 @@ module _ (o : Order) (s : Seen) where
   passed Passes.window-fails h = refl
   passed (Passes.data-byte e) h = omega tests
   passed (Passes.data-crc e) h = refl
-  passed Passes.record-over h = by-cond IsWithin (isMultiple (o .byte)) (λ e. refl) (λ e. refl)
+  passed Passes.record-over h = refl
+  passed (Passes.record-follows on) h = refl
   passed Passes.hunt-fails h = refl
   passed (Passes.hunt-goes-on {run} few e) h = all (below-five few) (rw e (row (s .mfm) (s .cell) run))
   passed Passes.id-met h = refl

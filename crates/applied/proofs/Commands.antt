@@ -10,9 +10,9 @@ write-a0 = record { first = omega arith; last = omega arith; single = refl }
 
 pub read-80 : SingleRead 0x80
 unfolding bitOf
-read-80 = record { first = omega arith; last = omega arith; even = refl; single = refl }
+read-80 = record { first = omega arith; last = omega arith; even = refl; m = refl }
 
 -- with E
 pub read-84 : SingleRead 0x84
 unfolding bitOf
-read-84 = record { first = omega arith; last = omega arith; even = refl; single = refl }
+read-84 = record { first = omega arith; last = omega arith; even = refl; m = refl }

@@ -14,7 +14,7 @@ use Rattle.fields.specs.Rings.{cellsOf}
 use Rattle.wd.specs.declared.Machine.{Machine}
 use Rattle.wd.specs.Machines.{freshMachine, powerOn}
 use Rattle.exact.specs.Demand2.{JustOne, NoMark, after, clearCells}
-use Rattle.served.specs.Served.{byCode, fieldBytes}
+use Rattle.hosts.specs.Scenes.{byCode, fieldBytes}
 use Rattle.command.specs.declared.Chip.the-variants.{Wd1793}
 use Rattle.in_time.proofs.Scenes.{fresh}
 use Rattle.witnesses.proofs.Planned.{just-one, no-mark}

@@ -31,7 +31,8 @@ use Rattle.exact.proofs.NextCommand.{asked-fixed}
 use Rattle.exact.proofs.Demand2 as exact
 use Rattle.served.specs.Served.{givenIn, returnedIn, loadsDr, readsDr, ServesEach, WriterServes, BytesSeen}
 use Rattle.served.proofs.WriterBytes.{given-taken}
-use Rattle.served.proofs.Served.{length-bytes, bytes-seen}
+use Rattle.hosts.proofs.Lengths.{length-bytes}
+use Rattle.served.proofs.Served.{bytes-seen}
 use Rattle.uses.specs.Contracts.{PowerOnCall, PoweredOn}
 use Rattle.uses.specs.Courses.{protectedBit, deletedBit, notFoundBit, crcErrorBit, lostDataBit, Shows, FoundGood, silent}
 use Rattle.uses.specs.Sessions.{WriteThenRead, sessionOf, bytesTaken, bytesLoaded, bytesRead, Serves}

@@ -96,7 +96,7 @@ module _ (c : Accepted) (asked : ReadAsked c) (h : Host) (quiet : Quiet h (since
   premises =
       record {
         reads = decodes-read (c .machine .chip) (c .byte) (asked .single);
-        single = asked .single .single;
+        single = asked .single .m;
         accepted = taken c;
         ready = asked .ready;
         hlt = λ n b. lit n;

@@ -21,9 +21,8 @@ use Rattle.safe.specs.Demand1.{SafePowerOn, SafeLoad, SafeRead, SafeByteTime, S
 use Rattle.safe.specs.Pictures.{SafePicture}
 use Rattle.safe.specs.Viewer.{SafeView}
 use Rattle.hosts.specs.Hosts.{Host, Desk}
-use Rattle.hosts.specs.Scenes.{settling}
+use Rattle.hosts.specs.Scenes.{settling, fieldBytes}
 use Rattle.exact.specs.Demand2.{JustOne, NoMark, after, clearCells, ReadsBack}
-use Rattle.served.specs.Served.{fieldBytes}
 use Rattle.in_time.specs.Demand3.{OnRing, FirstWhole, MarkInWindow, FifthPulse}
 use Rattle.lost_data.specs.LostData.{ByteLost, ZeroWritten, Terminated, PutOver, NeverSilently}
 use Rattle.uses.specs.Contracts.{PowerOnCall, PoweredOn, LoadCall, ReadCall, ByteTimeCall, RunCall, PictureCall, ViewCall, NumberCall}

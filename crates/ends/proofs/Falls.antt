@@ -1,7 +1,7 @@
 -- Each byte time of a command leaves it fewer byte times, with HLT on; the cells that it writes are none above 511.
 -- Assumes nothing.
-use mathlib.Core.Path.{_≡_, refl}
-use mathlib.Core.Bool.{true, false, cond, not, _&&_, _||_}
+use mathlib.Core.Path.{_≡_, refl, sym, _∙_}
+use mathlib.Core.Bool.{true, false, true≢false, cond, not, _&&_, _||_}
 use Prim.Native.Nat.{ℕ, zero, suc, _+_, _-_, _*_, _%_, _≤_, _<_}
 use native.Mathlib.Nat.{mod-eq-of-lt}
 use native.Mathlib.Omega.{arith}
@@ -129,7 +129,7 @@ module _ (x : Moment) where
       → Counted (orderAt x) a
       → (seeks a ≡ true → Aims x (regsAt x))
       → Good x (left x a) (pass (seenAt x) next deed)
-  unfolding leftOf busyIn Counted seeks afterMatch afterRecord begunLeft trackAfter regsAfter effectOf stepped
+  unfolding leftOf busyIn Counted seeks afterMatch begunLeft trackAfter regsAfter effectOf stepped
   passed Passes.idles busy _ _ _ = never (cc)
   passed (Passes.seek-waits more) _ _ counted aims =
       record { falls = rw (size x) (omega arith); counted = counted; low = x .low; aims = λ on. aims refl }
@@ -160,7 +160,8 @@ module _ (x : Moment) where
   passed Passes.window-fails _ _ _ _ = ends x _ _ (omega arith)
   passed (Passes.data-byte e) _ _ counted _ = passes x _ _ _ (omega arith) counted refl
   passed (Passes.data-crc e) _ _ counted _ = passes x _ _ _ (omega arith) counted refl
-  passed Passes.record-over _ _ counted _ = rw counted (ends x _ _ (omega arith))
+  passed Passes.record-over _ _ _ _ = ends x _ _ (omega arith)
+  passed (Passes.record-follows on) _ _ single _ = absurd (true≢false (sym on ∙ single))
   passed Passes.hunt-fails _ _ counted _ = absurd counted
   passed (Passes.hunt-goes-on few e) _ _ counted _ = absurd counted
   passed Passes.id-met _ _ counted _ = absurd counted

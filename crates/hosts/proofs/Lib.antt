@@ -17,6 +17,7 @@ pub mod Seeking
 pub mod Searching
 pub mod Silent
 pub mod RingIds
+pub mod Lengths
 pub mod DrByte
 pub mod Accepted
 pub mod Intrq
@@ -25,6 +26,7 @@ pub mod Collected
 pub mod ReadActs
 pub mod ReadDeeds
 pub mod Windows
+pub mod FirstMarks
 pub mod Records
 pub mod Working
 pub mod Found

@@ -4,7 +4,6 @@ use mathlib.Core.Path.{_≡_}
 use mathlib.Core.Bool.{true, false}
 use mathlib.Core.List.{List}
 use Prim.Native.Nat.{ℕ, suc, _+_, _-_, _<_}
-use native.Mathlib.Decide.{decLt}
 use native.Mathlib.Omega.{arith}
 use Rattle.scan.specs.Marks.{markCrc}
 use Rattle.scan.specs.DataMarks.{markByte, isDeleted, windowOf}
@@ -18,8 +17,8 @@ use Rattle.hosts.specs.Scenes.{Scene}
 use Rattle.hosts.proofs.Views.{View}
 use Rattle.hosts.proofs.Courses.{Lasts}
 use Rattle.hosts.proofs.Searching.{reads-two}
-use Rattle.hosts.proofs.Records.{Marked, data-lasts, record-ends}
-use Rattle.hosts.proofs.Windows.{NoMarkIn, FirstMarkIn, cellsAfter, Opened, window-lasts, unmarked, marked, window-some}
+use Rattle.hosts.proofs.Records.{Marked, record-lasts, record-ends}
+use Rattle.hosts.proofs.Windows.{NoMarkIn, FirstMarkIn, cellsAfter, Opened, opened-lasts, unmarked, marked, window-some}
 use Rattle.hosts.proofs.Working.{Working, courseOf, Heads, beginning, beginning-track, OverAt, over-at}
 use Rattle.hosts.proofs.Found.{Found, foundSize, found-view, found-lasts}
 
@@ -28,12 +27,9 @@ module _ {Rows : List ℕ → Type 0} {s : Scene} {w : Working Rows s ReadSector
   abbrev view : View
   view = beginning w heads
 
-  -- the cells up to the ID's last, and the bytes of the data field
+  -- the cells up to the ID's last
   abbrev j : ℕ
   j = suc (f .q)
-
-  abbrev size : ℕ
-  size = foundSize f
 
   pub found-opens :
       Opened (courseOf w) (heads .begun) (beginning w heads) (suc (f .q)) (foundSize f)
@@ -41,20 +37,8 @@ module _ {Rows : List ℕ → Type 0} {s : Scene} {w : Working Rows s ReadSector
   found-opens =
       record { track = beginning-track w heads; rows = w .rows; begins = found-view f }
 
-  opened-lasts :
-      (n : ℕ)
-      → n < windowOf (s .machine .mfm)
-      → NoMarkIn (s .machine .mfm) (cellsAfter view j) n
-      → (k : ℕ)
-      → k < suc (j + n)
-      → Lasts (courseOf w) (s .row) (heads .begun + k)
-  opened-lasts n within none k l = by (decLt k j)
-    where
-      by : Dec (k < j) → Lasts (courseOf w) (s .row) (heads .begun + k)
-      by (yes h) = found-lasts f k (omega arith)
-      by (no h) =
-          let e : j + (k - j) ≡ k = omega arith in
-          rw e at (window-lasts found-opens (k - j) (omega arith) (λ i g. none i (omega arith)))
+  before : (k : ℕ) → k < j → Lasts (courseOf w) (s .row) (heads .begun + k)
+  before k l = found-lasts f k (omega arith)
 
   -- "No data mark by the window's last cell: bit 4, end there."
   pub unmarked-over :
@@ -63,7 +47,7 @@ module _ {Rows : List ℕ → Type 0} {s : Scene} {w : Working Rows s ReadSector
   unmarked-over none =
       over-at w heads (unmarked found-opens none)
       (λ k l.
-      opened-lasts (windowOf (s .machine .mfm) - 1) (omega (arith, window-some (s .machine .mfm)))
+      opened-lasts found-opens before (windowOf (s .machine .mfm) - 1) (omega (arith, window-some (s .machine .mfm)))
       (λ i g. none i (omega arith)) k (omega arith))
 
   module _ (u : ℕ) (mark : DataMark)
@@ -79,13 +63,7 @@ module _ {Rows : List ℕ → Type 0} {s : Scene} {w : Working Rows s ReadSector
         isMultiple (s .byte) ≡ false
         → OverAt s (heads .begun + (suc (f .q) + suc u + (foundSize f + 2))) false
     unfolding orderOf
-    marked-over single = over-at w heads (record-ends found-marked single) lasting
-      where
-        lasting : (k : ℕ) → k < j + suc u + (size + 2) → Lasts (courseOf w) (s .row) (heads .begun + k)
-        lasting k l = by (decLt k (j + suc u))
-          where
-            by : Dec (k < j + suc u) → Lasts (courseOf w) (s .row) (heads .begun + k)
-            by (yes h) = opened-lasts u (first .near) (first .none) k (omega arith)
-            by (no h) =
-                let e : j + suc u + (k - (j + suc u)) ≡ k = omega arith in
-                rw e at (data-lasts found-marked (k - (j + suc u)) (omega arith))
+    marked-over single =
+        over-at w heads (record-ends found-marked single)
+        (record-lasts found-marked
+        (λ k l. opened-lasts found-opens before u (first .near) (first .none) k (omega arith)))

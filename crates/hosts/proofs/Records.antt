@@ -105,9 +105,20 @@ module _ {Rows : List ℕ → Type 0} {c : Course Rows} {t : ℕ} {v : View} {m 
       lasts-from c t v (r .rows) m dataAt i (λ k h. refl) (λ k h o same. reads-act k o (omega arith))
       (subst (λ (left : ℕ). Stands c t v m (v .missing) (Data left crc deleted)) none (r .begins))
 
-  pub data-lasts : (i : ℕ) → i < size + 2 → Lasts c (v .row) (t + (m + i))
+  data-lasts : (i : ℕ) → i < size + 2 → Lasts c (v .row) (t + (m + i))
   unfolding busyIn
   data-lasts i l = stands-lasts c t v (reads i (omega arith)) refl
+
+  -- so it lasts from byte time t on, where it has lasted up to the data field
+  pub record-lasts :
+      ((k : ℕ) → k < m → Lasts c (v .row) (t + k)) → (k : ℕ) → k < m + (size + 2) → Lasts c (v .row) (t + k)
+  record-lasts before k l = by (decLt k m)
+    where
+      by : Dec (k < m) → Lasts c (v .row) (t + k)
+      by (yes h) = before k h
+      by (no h) =
+          let e : m + (k - m) ≡ k = omega arith in
+          rw e at (data-lasts (k - m) (omega arith))
 
   -- where the head is then
   pub data-ring : (i : ℕ) → i ≤ size → deskAt c (t + (m + i)) .machine .ring ≡ turnsOn (m + i) (v .ring)

@@ -114,10 +114,27 @@ module _ {Rows : List ℕ → Type 0} {c : Course Rows} {t : ℕ} {v : View} {j 
       record { deed = Nothing; acts = awaits-act k o (none k l) (omega arith); keeps = nothing-keeps })
       (r .begins)
 
-  pub window-lasts :
+  window-lasts :
       (n : ℕ) → n < windowOf (v .mfm) → NoMarkIn (v .mfm) (cellsAfter v j) n → Lasts c (v .row) (t + (j + n))
   unfolding busyIn
   window-lasts n within none = stands-lasts c t v (awaits n within none) refl
+
+  -- so it lasts from byte time t on, where it has lasted up to the window
+  pub opened-lasts :
+      ((k : ℕ) → k < j → Lasts c (v .row) (t + k))
+      → (n : ℕ)
+      → n < windowOf (v .mfm)
+      → NoMarkIn (v .mfm) (cellsAfter v j) n
+      → (k : ℕ)
+      → k < suc (j + n)
+      → Lasts c (v .row) (t + k)
+  opened-lasts before n within none k l = by (decLt k j)
+    where
+      by : Dec (k < j) → Lasts c (v .row) (t + k)
+      by (yes h) = before k h
+      by (no h) =
+          let e : j + (k - j) ≡ k = omega arith in
+          rw e at (window-lasts (k - j) (omega arith) (λ i g. none i (omega arith)))
 
   -- "No data mark by the window's last cell: bit 4, end there."
   pub unmarked : NoMarkIn (v .mfm) (cellsAfter v j) (windowOf (v .mfm)) → Stands c t v (j + windowOf (v .mfm)) true Idle

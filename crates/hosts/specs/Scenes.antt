@@ -1,14 +1,16 @@
 -- A command under any host: the load that it begins with, the track, and the IDs that it goes by. Assumes nothing.
 use mathlib.Core.Path.{_≡_}
-use mathlib.Core.Bool.{true, cond}
+use mathlib.Core.Bool.{Bool, true, cond}
 use mathlib.Core.List.{List}
-use Prim.Native.Nat.{ℕ}
+use Prim.Native.Nat.{ℕ, _%_}
+use lib.Dec.{eqb}
 use Rattle.common.specs.Bits.{bitOf}
 use Rattle.scan.specs.declared.Id.{Id}
 use Rattle.command.specs.declared.Chip.{Chip}
 use Rattle.command.specs.declared.Chip.the-variants.{Wd1793, Wd1797}
 use Rattle.registers.specs.declared.Lines.{Lines}
 use Rattle.wd.specs.declared.Machine.{Machine}
+use Rattle.wd.specs.Reads.{readRegister}
 use Rattle.wd.specs.Loads.{loadRegister}
 use Rattle.hosts.specs.Hosts.{Host, Desk}
 
@@ -35,8 +37,30 @@ SideSuits Wd1793 byte side = bitOf byte 1 ≡ true → side ≡ cond (bitOf byte
 SideSuits Wd1797 byte side = side ≡ cond (bitOf byte 1) 1 0
 
 -- "An ID matches if its track is TR and, for Type II, its sector is SR and, with C, its side is S", or on the 1797 U; "with a good CRC"
-pub record Suits (s : Scene) (id : Id) : Type 0 where
-  pub track : id .track ≡ s .machine .regs .tr
-  pub sector : id .sector ≡ s .machine .regs .sr
-  pub side : SideSuits (s .machine .chip) (s .byte) (id .side)
+pub record SuitsFor (chip : Chip) (byte tr sr : ℕ) (id : Id) : Type 0 where
+  pub track : id .track ≡ tr
+  pub sector : id .sector ≡ sr
+  pub side : SideSuits chip byte (id .side)
   pub good : id .good ≡ true
+
+-- with TR and SR as the load finds them
+abbrev pub Suits : Scene → Id → Type 0
+Suits s = SuitsFor (s .machine .chip) (s .byte) (s .machine .regs .tr) (s .machine .regs .sr)
+
+-- what the two low bits of a length stand for
+unfoldable pub byCode : ℕ → ℕ → ℕ → ℕ → ℕ → ℕ
+byCode zeroth first second third code =
+    cond (eqb (code % 4) 0) zeroth
+    (cond (eqb (code % 4) 1) first
+    (cond (eqb (code % 4) 2) second
+    third))
+
+-- "The two low bits of length give 128, 256, 512, 1,024." On the 1797 "bit 3 of Type II becomes L": "With L 1 the length codes are as
+-- before; with L 0 the codes 0 to 3 mean 256, 512, 1,024, 128."
+unfoldable pub fieldBytes : Chip → ℕ → ℕ → ℕ
+fieldBytes Wd1793 byte code = byCode 128 256 512 1024 code
+fieldBytes Wd1797 byte code = cond (bitOf byte 3) (byCode 128 256 512 1024 code) (byCode 256 512 1024 128 code)
+
+-- "4 .. Record Not Found": a bit of the status byte that a read hands back under these lines
+abbrev pub notFound : Machine → Lines → Bool
+notFound m l = bitOf (readRegister m l 0 .byte) 4

@@ -10,17 +10,14 @@ use Rattle.scan.specs.Streams.{MarkAt, IdAt, idFrom, IdEnds}
 use Rattle.scan.specs.declared.Id.{Id}
 use Rattle.command.specs.Bits.{isMultiple}
 use Rattle.command.specs.Commands.{decodedOf}
-use Rattle.common.specs.Bits.{bitOf}
 use Rattle.command.specs.declared.Command.the-variants.{ReadSector}
 use Rattle.command.specs.declared.Decoded.the-variants.{Taken}
 use Rattle.registers.specs.declared.Lines.{Lines}
 use Rattle.fields.specs.Rings.{cellsOf}
-use Rattle.wd.specs.declared.Machine.{Machine}
-use Rattle.wd.specs.Reads.{readRegister}
 use Rattle.wd.specs.Loads.{loadRegister}
 use Rattle.reachable.specs.ByteTimes.{turnsOn}
 use Rattle.hosts.specs.Hosts.{BusyAt, Undisturbed, at, EndsAt}
-use Rattle.hosts.specs.Scenes.{Scene, loaded, settling, Suits}
+use Rattle.hosts.specs.Scenes.{Scene, loaded, settling, Suits, notFound}
 use Rattle.hosts.specs.Tracks.{positionAt, passing, pulsesIn}
 
 -- ---- premises
@@ -81,10 +78,6 @@ pub record MarkInWindow (s : Scene) (n : ℕ) : Type 0 where
 pub record FifthPulse (s : Scene) (n : ℕ) : Type 0 where
   pub four : pulsesIn (length (s .row)) (startOf s) n ≡ 4
   pub pulse : positionAt (length (s .row)) (startOf s) n ≡ 0
-
--- "Record Not Found": bit 4 of the status byte that a read hands back under these lines
-abbrev pub notFound : Machine → Lines → Bool
-notFound m l = bitOf (readRegister m l 0 .byte) 4
 
 -- ---- conclusion, of a command that ends in byte time n, counted from 1 after the load
 

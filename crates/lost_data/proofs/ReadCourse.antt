@@ -5,7 +5,6 @@ use Prim.Native.Nat.{ℕ}
 use lib.Dec.{eqb}
 use Rattle.common.proofs.Cases.{by-cond}
 use Rattle.scan.specs.declared.Scan.{Scan}
-use Rattle.command.specs.Bits.{isMultiple}
 use Rattle.command.specs.Commands.{jobOf}
 use Rattle.command.specs.declared.Order.{Order}
 use Rattle.command.specs.declared.Job.{Job}
@@ -16,7 +15,7 @@ use Rattle.activity.specs.declared.Activity.{Activity}
 use Rattle.activity.specs.declared.Activity.the-variants.{Idle, Settle, Search, Window, Data, Hunt, Address, Await, TrackRead}
 use Rattle.activity.specs.declared.Deed.{Deed}
 use Rattle.activity.specs.declared.Deed.the-variants.{Nothing, Deliver, Named, Matched, NotFound, Record}
-use Rattle.search.specs.Search.{afterMatch, afterRecord}
+use Rattle.search.specs.Search.{afterMatch}
 use Rattle.act.specs.Turns.{jobBegun, begunActivity, actOf}
 use Rattle.act.proofs.Acts.{Passes, Acts, turns}
 
@@ -79,7 +78,7 @@ module _ (o : Order) (s : Seen) where
   begun is in-track = in-track
 
   acted : {j : Job} {a : Activity} {act : Act} → jobOf (o .command) ≡ j → Acting j a → Acts o s a act → ReadAct j act
-  unfolding afterMatch afterRecord
+  unfolding afterMatch
   acted is over (Acts.passes Passes.idles) = record { next = over; deed = nothing }
   acted is (settles read) (Acts.passes Passes.settles) = record { next = settles read; deed = nothing }
   acted is searches (Acts.passes Passes.search-fails) = record { next = over; deed = fails }
@@ -91,11 +90,8 @@ module _ (o : Order) (s : Seen) where
   acted is in-window (Acts.passes Passes.window-fails) = record { next = over; deed = fails }
   acted is in-data (Acts.passes (Passes.data-byte more)) = record { next = in-data; deed = delivers }
   acted is in-data (Acts.passes (Passes.data-crc e)) = record { next = in-data; deed = nothing }
-  acted is in-data (Acts.passes Passes.record-over) =
-      record {
-        next = by-cond (Reading job.ReadSector) (isMultiple (o .byte)) (λ e. searches) (λ e. over);
-        deed = records;
-      }
+  acted is in-data (Acts.passes Passes.record-over) = record { next = over; deed = records }
+  acted is in-data (Acts.passes (Passes.record-follows on)) = record { next = searches; deed = records }
   acted is hunts (Acts.passes Passes.hunt-fails) = record { next = over; deed = fails }
   acted is hunts (Acts.passes (Passes.hunt-goes-on few e)) = record { next = hunts; deed = nothing }
   acted is hunts (Acts.passes Passes.id-met) = record { next = in-address; deed = nothing }

@@ -62,7 +62,7 @@ afresh pulses = Search pulses (Gap 0)
 
 -- after a record: "With m .. the search starts afresh instead; a bad data CRC does not stop it"; without m the command is over
 unfoldable pub afterRecord : Bool → Activity
-afterRecord multiple = cond multiple (afresh 0) Idle
+afterRecord follows = cond follows (afresh 0) Idle
 
 -- "One that matches but has a bad CRC sets bit 3 and the search goes on; a good match clears it."
 unfoldable pub idFound : Order → Seen → ℕ → Id → Act

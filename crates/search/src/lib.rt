@@ -104,10 +104,10 @@ fn hears(o: Order, s: Seen, pulses: u8, heard: Heard) -> Act
 }
 
 // After a record: the next search, or the end.
-pub fn again(multiple: bool) -> Activity
-    ensures { λ r. ⌜ r ≡ afterRecord multiple ⌝ }
+pub fn again(follows: bool) -> Activity
+    ensures { λ r. ⌜ r ≡ afterRecord follows ⌝ }
 {
-    if multiple {
+    if follows {
         Activity::Search(0, Scan::Gap(0))
     } else {
         Activity::Idle

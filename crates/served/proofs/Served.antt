@@ -1,57 +1,26 @@
 -- Demand 2 as a host sees it: the bytes that it loads are the bytes that it reads. Assumes nothing.
-use mathlib.Core.Path.{_≡_, refl, sym, ap, _∙_}
-use mathlib.Core.Bool.{Bool, true, false, cond, not}
-use mathlib.Core.List.{[], _∷_}
-use Prim.Native.Nat.{ℕ, zero, suc, _+_, _%_, _<_}
-use native.Mathlib.Nat.{mod-lt}
+use mathlib.Core.Path.{_≡_, sym, ap, _∙_}
+use mathlib.Core.Bool.{false, not}
+use Prim.Native.Nat.{ℕ, _+_}
 use native.Mathlib.Omega.{arith}
-use lib.Dec.{eqb}
-use lib.ListN.{length, getD}
+use lib.ListN.{length}
 use Rattle.scan.specs.DataMarks.{isDeleted}
 use Rattle.command.specs.Bits.{markWritten}
-use Rattle.common.specs.Bits.{bitOf}
-use Rattle.command.specs.Bits.{ibmLengths}
-use Rattle.command.specs.Sizes.{sizeOf, otherSizes, fieldSize}
-use Rattle.command.specs.declared.Chip.{Chip}
-use Rattle.command.specs.declared.Chip.the-variants.{Wd1793, Wd1797}
 use Rattle.registers.specs.declared.Lines.{Lines}
 use Rattle.registers.specs.Registers.{readRefusal, readByte}
 use Rattle.registers.specs.Status.{bitFor}
 use Rattle.wd.specs.declared.Machine.{Machine}
 use Rattle.wd.specs.Reads.{statusOf, readRegister}
 use Rattle.reachable.proofs.Valid.{Valid}
+use Rattle.hosts.proofs.Lengths.{length-bytes}
 use Rattle.hosts.proofs.Views.{stays-valid}
 use Rattle.hosts.proofs.ReadThrough.{Meets}
 use Rattle.exact.specs.Demand2.{Session, readScene, resumed, got, ReadBackPremises, FewerPremises, ReadsBack}
 use Rattle.exact.proofs.ReadSession as read
 use Rattle.exact.proofs.Demand2.{fewer, reads-back}
-use Rattle.served.specs.Served.{ReaderServes, WriterServes, byCode, fieldBytes, BytesSeen}
+use Rattle.served.specs.Served.{ReaderServes, WriterServes, BytesSeen}
 use Rattle.served.proofs.WriterBytes.{given-taken}
 use Rattle.served.proofs.ReaderBytes.{reader-valid, returned-handed, none-lost, none-left}
-
--- the four lengths are a table's
-by-table : (a b c d low : ℕ) → low < 4
-    → getD (a ∷ b ∷ c ∷ d ∷ []) low 0 ≡ cond (eqb low 0) a (cond (eqb low 1) b (cond (eqb low 2) c d))
-by-table a b c d zero l = refl
-by-table a b c d (suc zero) l = refl
-by-table a b c d (suc (suc zero)) l = refl
-by-table a b c d (suc (suc (suc zero))) l = refl
-by-table a b c d (suc (suc (suc (suc low)))) l = absurd (omega arith)
-
-by-code : (a b c d code : ℕ) → getD (a ∷ b ∷ c ∷ d ∷ []) (code % 4) 0 ≡ byCode a b c d code
-unfolding byCode
-by-code a b c d code = by-table a b c d (code % 4) (mod-lt code (omega arith))
-
-pub length-bytes : (chip : Chip) (byte code : ℕ) → fieldSize (ibmLengths chip byte) code ≡ fieldBytes chip byte code
-unfolding fieldSize sizeOf ibmLengths fieldBytes
-length-bytes Wd1793 byte code = by-code 128 256 512 1024 code
-length-bytes Wd1797 byte code = by (bitOf byte 3)
-  where
-    by : (ibm : Bool)
-        → cond ibm (sizeOf code) (getD otherSizes (code % 4) 0)
-        ≡ cond ibm (byCode 128 256 512 1024 code) (byCode 256 512 1024 128 code)
-    by true = by-code 128 256 512 1024 code
-    by false = by-code 256 512 1024 128 code
 
 -- a read of the status
 read-status : (m : Machine) (l : Lines) → Valid m → readRegister m l 0 .byte ≡ statusOf m l .byte

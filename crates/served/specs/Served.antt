@@ -3,20 +3,18 @@
 use mathlib.Core.Path.{_≡_}
 use mathlib.Core.Bool.{Bool, true, false, cond, not}
 use mathlib.Core.List.{List, [], _∷_, _++_}
-use Prim.Native.Nat.{ℕ, zero, suc, _+_, _%_, _<_}
+use Prim.Native.Nat.{ℕ, zero, suc, _+_, _<_}
 use lib.Dec.{eqb}
 use lib.ListN.{length}
 use Rattle.scan.specs.Streams.{idFrom}
 use Rattle.scan.specs.DataMarks.{isDeleted}
-use Rattle.common.specs.Bits.{bitOf}
 use Rattle.command.specs.Bits.{markWritten}
-use Rattle.command.specs.declared.Chip.{Chip}
-use Rattle.command.specs.declared.Chip.the-variants.{Wd1793, Wd1797}
 use Rattle.registers.specs.declared.Lines.{Lines}
 use Rattle.registers.specs.Status.{bitFor}
 use Rattle.fields.specs.Rings.{cellsOf}
 use Rattle.wd.specs.declared.Machine.{Machine}
 use Rattle.wd.specs.Reads.{readRegister}
+use Rattle.hosts.specs.Scenes.{fieldBytes}
 use Rattle.hosts.specs.Hosts.{Call, loads, reads, calledOf, Host, Desk, servedAt, at}
 use Rattle.exact.specs.Demand2.{Session, begun, resumed, got}
 
@@ -82,20 +80,6 @@ abbrev pub WriterServes : Session → Type 0
 WriterServes s = ServesEach loadsDr readsDr (s .writer) (begun s) (s .written)
 
 -- ---- conclusion
-
--- what the two low bits of a length stand for
-unfoldable pub byCode : ℕ → ℕ → ℕ → ℕ → ℕ → ℕ
-byCode zeroth first second third code =
-    cond (eqb (code % 4) 0) zeroth
-    (cond (eqb (code % 4) 1) first
-    (cond (eqb (code % 4) 2) second
-    third))
-
--- "The two low bits of length give 128, 256, 512, 1,024." On the 1797 "bit 3 of Type II becomes L": "With L 1 the length codes are as
--- before; with L 0 the codes 0 to 3 mean 256, 512, 1,024, 128."
-unfoldable pub fieldBytes : Chip → ℕ → ℕ → ℕ
-fieldBytes Wd1793 byte code = byCode 128 256 512 1024 code
-fieldBytes Wd1797 byte code = cond (bitOf byte 3) (byCode 128 256 512 1024 code) (byCode 256 512 1024 128 code)
 
 pub record BytesSeen (s : Session) (p : ℕ) : Type 0 where
   -- "reads back the same": the bytes that the reads of DR returned are those that were loaded into DR, in their order

@@ -1,5 +1,6 @@
 -- Which command a byte is, of those that document 01's rows name for Read Sector and Write Sector. Assumes nothing.
 use mathlib.Core.Path.{_≡_, refl, sym, ap, _∙_}
+use mathlib.Core.Bool.{Bool}
 use Prim.Native.Nat.{ℕ, _+_, _-_, _*_, _/_, _%_, _≤_}
 use native.Mathlib.Omega.{arith}
 use Rattle.common.proofs.Arms.{range}
@@ -7,7 +8,7 @@ use Rattle.command.specs.Commands.{decodedByBoth, decodedOf}
 use Rattle.command.specs.declared.Chip.{Chip}
 use Rattle.command.specs.declared.Command.the-variants.{ReadSector, WriteSector}
 use Rattle.command.specs.declared.Decoded.the-variants.{Taken}
-use Rattle.uses.specs.Courses.{SingleRead, SingleWrite}
+use Rattle.uses.specs.Courses.{SectorRead, SingleWrite}
 
 -- "even 80-9E Read Sector"
 pub reads-sector : (chip : Chip) (b : ℕ) → 0x80 ≤ b → b ≤ 0x9E → b % 2 ≡ 0 → decodedOf chip b ≡ Taken ReadSector
@@ -18,7 +19,7 @@ reads-sector chip b first last even =
     ap (decodedOf chip) (sym same)
     ∙ sym (range (λ (k : ℕ). decodedOf chip (0x80 + 2 * k)) {x = half} 0 16 refl (omega arith) (omega arith))
 
-pub decodes-read : (chip : Chip) (b : ℕ) → SingleRead b → decodedOf chip b ≡ Taken ReadSector
+pub decodes-read : {multiple : Bool} (chip : Chip) (b : ℕ) → SectorRead multiple b → decodedOf chip b ≡ Taken ReadSector
 decodes-read chip b is = reads-sector chip b (is .first) (is .last) (is .even)
 
 -- "A0-BF Write Sector"

@@ -114,12 +114,15 @@ courseThen course h = hostOf (course .calls) (madeThen (course .last) h)
 
 -- ---- which command
 
--- "even 80-9E Read Sector"; "Bits of Type II: 4 m, ..": a single one
-pub record SingleRead (b : ℕ) : Type 0 where
+-- "even 80-9E Read Sector"; "Bits of Type II: 4 m, ..": with m or without
+pub record SectorRead (multiple : Bool) (b : ℕ) : Type 0 where
   pub first : 0x80 ≤ b
   pub last : b ≤ 0x9E
   pub even : b % 2 ≡ 0
-  pub single : bitOf b 4 ≡ false
+  pub m : bitOf b 4 ≡ multiple
+
+abbrev pub SingleRead : ℕ → Type 0
+SingleRead = SectorRead false
 
 -- "A0-BF Write Sector", a single one
 pub record SingleWrite (b : ℕ) : Type 0 where

@@ -32,11 +32,11 @@ use Rattle.wd.specs.Machines.{validOf, freshMachine, powerOn}
 use Rattle.wd.specs.Loads.{commandAnswer, loadRegister}
 use Rattle.reachable.specs.ByteTimes.{turnsOn}
 use Rattle.hosts.specs.Hosts.{at, EndsAt}
-use Rattle.hosts.specs.Scenes.{Scene, loaded, SideSuits, Suits}
+use Rattle.hosts.specs.Scenes.{Scene, loaded, SideSuits, Suits, notFound}
 use Rattle.hosts.specs.Tracks.{passing}
 use Rattle.hosts.proofs.LowRows.{allLow, low-by}
 use Rattle.hosts.proofs.Courses.{ends-once}
-use Rattle.in_time.specs.Demand3.{InTimePremises, streamOf, OnRing, FirstWhole, windowCells, MarkInWindow, notFound}
+use Rattle.in_time.specs.Demand3.{InTimePremises, streamOf, OnRing, FirstWhole, windowCells, MarkInWindow}
 use Rattle.in_time.proofs.Demand3.{first-once, whole-ring, in-time}
 use Rattle.in_time.proofs.Scenes.{reader, reader-quiet, sceneBy, asked-by, scene-asked, fresh, fresh-accepts}
 use Rattle.witnesses.proofs.LastBusy.{ends-after}
