@@ -189,7 +189,10 @@ impl Generator {
                 let byte = self.random.pick(&timing::BEGINNINGS);
                 self.beginning_scene(byte);
             }
-            27 => self.chain_scene(),
+            27 => {
+                let chain = self.random.pick(&chaining::CHAINS);
+                self.chain_scene(chain);
+            }
             28 => self.late_write_scene(),
             _ if self.random.one_in(4) => self.power_on_either(),
             _ => self.comment(),

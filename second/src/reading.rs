@@ -39,7 +39,8 @@ impl Machine {
     }
 
     /// "At the second CRC cell: bit 3 if bad, bit 5 on if F8, else off, Busy off, INTRQ." DRQ is
-    /// left as it is.
+    /// left as it is. "If there is a CRC error at the end of the data field, the CRC error status
+    /// bit is set, and the command is terminated (even if it is a multiple record command)." (004)
     pub(crate) fn go_on_reading_record(
         &mut self,
         read: RecordRead,
@@ -55,11 +56,12 @@ impl Machine {
         if after_mark < read.size + CRC_CELLS {
             return Activity::ReadingRecord(read);
         }
+        self.status.deleted = read.deleted;
         // A good CRC does not clear bit 3: the good match has done that already.
         if crc::of_field(&read.field) != 0 {
             self.status.crc_error = true;
+            return self.end();
         }
-        self.status.deleted = read.deleted;
         self.end_record(read.command)
     }
 

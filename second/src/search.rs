@@ -112,8 +112,8 @@ impl Machine {
         }
     }
 
-    /// The end of a record: "with m, SR goes up by one (255 to 0) and the search starts afresh
-    /// instead".
+    /// The end of a record that was written, or read with a good CRC: "with m, SR goes up by one
+    /// (255 to 0) and the search starts afresh instead".
     pub(crate) fn end_record(&mut self, command: Command) -> Activity {
         if !command.multiple() {
             return self.end();

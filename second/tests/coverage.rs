@@ -6,7 +6,9 @@ use std::process::{Command, Output};
 use second::bench::Bench;
 use second::coverage::desk::{Desk, Printed};
 use second::coverage::{rows, shown};
+use second::density::Density;
 use second::generate;
+use second::layout;
 use second::script::{self, Parsed};
 
 const COVERAGE: &str = env!("CARGO_BIN_EXE_coverage");
@@ -137,6 +139,46 @@ fn a_length_code_is_shown_at_the_end_of_its_record() {
     assert!(ignores(&["W 0 A0", "G FFFF", &served]));
     assert!(!ignores(&["W 0 A8", "G FFFF", &served]));
     assert!(!ignores(&["W 0 A0", "G FFFF", "W 3 0", "G FFFF"]));
+}
+
+/// Cells as a line.
+fn cells_line(place: usize, cells: &[u16]) -> String {
+    let named: String = cells.iter().map(|cell| format!(" {:X}", cell)).collect();
+    format!("C {:X}{}", place, named)
+}
+
+/// Lines that lay sectors 1, 2, .. of 128 bytes FF, their data CRCs good or not, and read them with
+/// this command; nobody serves it.
+fn reads(byte: u8, good: &[bool]) -> Vec<String> {
+    let mut lines = Vec::new();
+    for (index, good) in good.iter().enumerate() {
+        let place = 100 + 200 * index;
+        let id = layout::id_cells(Density::Fm, [0, 0, index as u8 + 1, 0]);
+        let field = layout::field_cells(Density::Fm, 0xFB, &[0xFF; 128]);
+        let crc = [field[129], field[130] ^ u16::from(!good)];
+        lines.push(cells_line(place, &id));
+        lines.push(cells_line(place + 20, &field[..1]));
+        lines.push(cells_line(place + 20 + 129, &crc));
+    }
+    lines.push(format!("W 0 {:X}", byte));
+    lines.extend(vec!["B".to_string(); 100 + 200 * good.len()]);
+    lines
+}
+
+#[test]
+fn a_broken_record_is_shown_where_m_reads_it() {
+    let passes = |lines: Vec<String>, does| {
+        let lines: Vec<&str> = lines.iter().map(String::as_str).collect();
+        shows(&lines, "A bad data CRC ends", does)
+    };
+    assert!(passes(reads(0x90, &[false]), "it goes on"));
+    assert!(!passes(reads(0x80, &[false]), "it goes on"));
+    assert!(!passes(reads(0x90, &[true]), "it goes on"));
+    let (first, later) = ("not that of the first record", "not that of a later record");
+    assert!(passes(reads(0x90, &[false, true]), first));
+    assert!(!passes(reads(0x90, &[false, true]), later));
+    assert!(!passes(reads(0x90, &[true, false]), first));
+    assert!(passes(reads(0x90, &[true, false]), later));
 }
 
 #[test]

@@ -29,7 +29,7 @@ use Rattle.activity.specs.declared.Deed.{Deed}
 use Rattle.activity.specs.declared.Deed.the-variants.{Nothing, Deliver, Named, Matched, NotFound, Record, Written, Ask, Late, Take, Step, Halt}
 use Rattle.stepping.specs.Stepping.{stopAct, trackAfter, stepAct, seekDecision, seekTurn, pulseTurn, stopTurn}
 use Rattle.search.specs.Search.{pulsesSeen, matchesFor, afterMatch, afresh, afterRecord, idFound, searchStep, searchCell}
-use Rattle.reading.specs.Reading.{windowMissed, windowStep, windowCell, dataCell, addressBegun, huntStep, huntCell, addressTrack, addressCell, trackCell}
+use Rattle.reading.specs.Reading.{windowMissed, windowStep, windowCell, recordFollows, recordEnd, dataCell, addressBegun, huntStep, huntCell, addressTrack, addressCell, trackCell}
 use Rattle.writing.specs.Writing.{markPlace, preambleCell, preambleNext, preambleDeed, preambleTurn, putCell}
 use Rattle.formatting.specs.Formatting.{untilLast, laidCell, laidCrc, formatCell, formatCrcCell}
 use Rattle.act.specs.Turns.{jobBegun, begunActivity, settleTurn, awaitTurn, activityAct, actOf}
@@ -125,7 +125,7 @@ module _ (o : Order) (s : Seen) where
         {left crc : ℕ} {deleted : Bool} → left ≡ 2 → Passes (Data left crc deleted) (Data 1 (crcByte crc byte) deleted) Nothing
     record-over : {left crc : ℕ} {deleted bad : Bool} → Passes (Data left crc deleted) Idle (Record deleted bad false)
     record-follows :
-        {left crc : ℕ} {deleted bad : Bool} → multiple ≡ true → Passes (Data left crc deleted) (afresh 0) (Record deleted bad true)
+        {left crc : ℕ} {deleted : Bool} → multiple ≡ true → Passes (Data left crc deleted) (afresh 0) (Record deleted false true)
     -- Read Address
     hunt-fails : {n run : ℕ} → Passes (Hunt n run) Idle NotFound
     hunt-goes-on :
@@ -207,14 +207,17 @@ module _ (o : Order) (s : Seen) where
       by-cond (λ (a : Activity). Acts (Hunt n run) (pass s a Nothing)) (eqb b 0xFE)
       (λ f. passes id-met) (λ f. passes (hunt-goes-on few (sym (ap runPast e))))
 
-  record-acts : {left crc : ℕ} {deleted : Bool} (bad : Bool)
-      → Acts (Data left crc deleted) (pass s (afterRecord multiple) (Record deleted bad multiple))
-  unfolding afterRecord
-  record-acts {left} {crc} {deleted} bad = by multiple refl
+  record-acts : {left crc : ℕ} {deleted : Bool} (sum : ℕ) → Acts (Data left crc deleted) (recordEnd s multiple sum deleted)
+  unfolding recordEnd recordFollows afterRecord
+  record-acts {left} {crc} {deleted} sum = by (eqb sum 0) multiple refl
     where
-      by : (m : Bool) → multiple ≡ m → Acts (Data left crc deleted) (pass s (cond m (afresh 0) Idle) (Record deleted bad m))
-      by true e = passes (record-follows e)
-      by false e = passes record-over
+      by : (good m : Bool)
+          → multiple ≡ m
+          → Acts (Data left crc deleted)
+          (pass s (cond (cond good m false) (afresh 0) Idle) (Record deleted (not good) (cond good m false)))
+      by true true e = passes (record-follows e)
+      by true false e = passes record-over
+      by false m e = passes record-over
 
   pub acts : (a : Activity) → Acts a (activityAct o s a)
   unfolding activityAct seekTurn seekDecision stepAct pulseTurn stopTurn settleTurn searchCell windowCell dataCell huntCell addressCell awaitTurn trackCell preambleTurn preambleNext putCell formatCell formatCrcCell untilLast writesIn
@@ -232,7 +235,7 @@ module _ (o : Order) (s : Seen) where
   acts (Window left n run) = met-acts (dataMarkStep (s .mfm) (s .cell) run) refl
   acts (Data left crc deleted) =
       either (λ e. passes (data-byte (leb-true 3 left e)))
-      (λ e. either (λ f. passes (data-crc (eqb-true left 2 f))) (λ f. record-acts (not (eqb (crcByte crc byte) 0))))
+      (λ e. either (λ f. passes (data-crc (eqb-true left 2 f))) (λ f. record-acts (crcByte crc byte)))
   acts (Hunt n run) = either (λ e. passes hunt-fails) (λ e. hunted-acts (markStep (s .mfm) (s .cell) run) refl (leb-false 5 _ e))
   acts (Address n crc track) = either (λ e. passes address-over) (λ e. passes (address-byte (leb-false 5 n e)))
   acts Await = either (λ e. passes (await-fails e)) (λ e. passes (await-goes-on e))

@@ -108,11 +108,11 @@ side-on mfm l l′ r s first second =
     let done = demand-1 .load (fresh mfm Wd1797) l 0 0xC2 r first .given .done .1 (accepted mfm Wd1797 l 0xC2 one-with-u) in
     let on : r .machine .sso ≡ true =
     ap (λ (q : Loaded). q .machine .sso) (first .told)
-    ∙ demand-2 .side-output (fresh mfm Wd1797) .set l 0xC2 refl (inl (omega arith, omega arith))
+    ∙ demand-2 .requests .side-output (fresh mfm Wd1797) .set l 0xC2 refl (inl (omega arith, omega arith))
     (ap (λ (q : Loaded). q .number) (sym (first .told)) ∙ done) in (
       on,
       ap (λ (q : Loaded). q .machine .sso) (second .told)
-          ∙ demand-2 .side-output (r .machine) .left l′ 0xD0 (inr (omega arith, omega arith))
+          ∙ demand-2 .requests .side-output (r .machine) .left l′ 0xD0 (inr (omega arith, omega arith))
           ∙ on,
     )
 

@@ -4,4 +4,5 @@ pub mod FirstCalls
 pub mod Sector
 pub mod NotFound
 pub mod Window
+pub mod Broken
 pub mod March

@@ -42,6 +42,7 @@ use Rattle.uses.proofs.Endings.{taken}
 use Rattle.uses.proofs.Bytes.{course-loaded, course-read}
 use Rattle.uses.proofs.Serves.{course-serves}
 use Rattle.uses.proofs.Decoding.{decodes-read, decodes-write}
+use Rattle.uses.proofs.Multiples.{multiple-read, over-at-broken}
 use Rattle.uses.proofs.Sessions.{waits, begun-is, writer-alone, write-ends, wrote-is, asked-is, resumed-is, reader-alone, read-ends, got-is}
 use Rattle.demands.specs.Demands.{ReadBackAsked, ReadBack, Demand2}
 
@@ -246,8 +247,12 @@ pub demand-2 : Demand2
 demand-2 =
     record {
       starts = powered-on;
-      side-output = side-output;
       exactly = λ d e u. (use-defined u, use-answered u);
       every-use = λ d e u. every-use u;
+      requests = record {
+        side-output = side-output;
+        multiple = multiple-read;
+        broken-over = λ c e u asked. over-at-broken c u asked;
+      };
       reads-back = reads;
     }

@@ -4,7 +4,6 @@ use mathlib.Core.Bool.{true, false, true≢false}
 use mathlib.Core.List.{List}
 use mathlib.Core.Logic.{_⊎_, inl, inr, _↔_}
 use Prim.Native.Nat.{ℕ, suc, _+_, _-_, _*_, _≤_, _<_}
-use native.Mathlib.Nat.{add-zero}
 use native.Mathlib.Decide.{decLt}
 use native.Mathlib.Omega.{arith}
 use lib.ListN.{length, getD}
@@ -20,7 +19,7 @@ use Rattle.wd.specs.declared.Loaded.{Loaded}
 use Rattle.wd.specs.declared.Read.{Read}
 use Rattle.wd.specs.declared.Passed.{Passed}
 use Rattle.wd.specs.Reads.{readRegister}
-use Rattle.hosts.specs.Hosts.{NoneAccepted, none, Host, Desk, servedAt, calledAll, at, EndsAt}
+use Rattle.hosts.specs.Hosts.{NoneAccepted, Host, Desk, servedAt, at, EndsAt}
 use Rattle.hosts.specs.Scenes.{Scene, loaded, settling, Suits}
 use Rattle.hosts.proofs.Courses.{ends-once}
 use Rattle.hosts.proofs.Idling.{host-fixed, stays-over, left-row}
@@ -33,13 +32,13 @@ use Rattle.safe.proofs.Refusals as refusals
 use Rattle.in_time.specs.Demand3.{InTimePremises, OnRing, FirstWhole, MarkInWindow, FifthPulse, InTime}
 use Rattle.in_time.proofs.Demand3.{in-time}
 use Rattle.uses.specs.Contracts.{ReadCall, ByteTimeCall}
-use Rattle.uses.specs.Uses.{Use, throughout, noCommand, headLoaded, passed, hostOf, dueAt, madeThen}
+use Rattle.uses.specs.Uses.{Use, throughout, noCommand, headLoaded, passed, hostOf, madeThen}
 use Rattle.uses.specs.Courses.{busyBit, notFoundBit, Shows, Accepted, since, Course, took, silent, sceneOf, courseThen, Ending}
-use Rattle.uses.proofs.EveryUse.{every-use}
 use Rattle.uses.proofs.QuietUse.{Quiet, quiet-use, quiet-made}
-use Rattle.uses.proofs.Statuses.{use-valid, since-valid, shows-busy}
+use Rattle.uses.proofs.Statuses.{use-valid, since-valid}
+use Rattle.uses.proofs.Over.{silent-quiet, due-is, use-quiet, over-there}
 use Rattle.uses.proofs.Heads.{HeadOn, use-on, made-on}
-use Rattle.uses.proofs.Endings.{taken, since-loaded, busy-due, ends-there, at-end}
+use Rattle.uses.proofs.Endings.{taken, since-loaded, ends-there, at-end}
 use Rattle.uses.proofs.Decoding.{decodes-read}
 use Rattle.demands.specs.Demands.{ReadAsked, ReadEnds, Demand3}
 use Rattle.demands.proofs.Demand1.{demand-1}
@@ -155,16 +154,13 @@ module _ (c : Accepted) (asked : ReadAsked c) (h : Host) (quiet : Quiet h (since
 
 -- ---- in every use
 
-silent-quiet : (d : Desk) → Quiet silent d
-silent-quiet d n = none
-
 module _ (c : Accepted) (asked : ReadAsked c) where
   module _ (e : Desk) (u : Use (since c) e) (head : throughout headLoaded u ≡ true) (alone : throughout noCommand u ≡ true) where
     abbrev host : Host
     host = hostOf u silent
 
     still-quiet : Quiet host (since c)
-    still-quiet = quiet-use u silent alone (silent-quiet e)
+    still-quiet = use-quiet u alone
 
     lit : HeadOn host
     lit = use-on u silent head (λ n. refl)
@@ -172,27 +168,15 @@ module _ (c : Accepted) (asked : ReadAsked c) where
     valid : Valid (e .machine)
     valid = use-valid u (since-valid c)
 
-    -- where it has come to, the calls after its last byte time not made
-    due-is : dueAt host (since c) (passed u) ≡ e
-    unfolding servedAt calledAll at
-    due-is = ap (dueAt host (since c)) (sym (add-zero (passed u))) ∙ every-use u silent 0
-
     -- when its time has come it is not Busy
-    over-there : time c asked host still-quiet lit ≤ passed u → Shows e busyBit false
-    over-there late =
-        let there : time c asked host still-quiet lit + (passed u - time c asked host still-quiet lit) ≡ passed u = omega arith in
-        shows-busy e false valid
-        (ap (λ (d : Desk). busyIn (d .machine .activity)) (sym due-is)
-        ∙ busy-due host (since c) still-quiet (passed u)
-        ∙ ap (λ (k : ℕ). busyIn (at host (since c) k .machine .activity)) (sym there)
-        ∙ stays-over host (since c) (time c asked host still-quiet lit) (passed u - time c asked host still-quiet lit)
-        (λ k m. still-quiet k) (over c asked host still-quiet lit .over))
+    by-then : time c asked host still-quiet lit ≤ passed u → Shows e busyBit false
+    by-then = over-there u alone (since-valid c) (time c asked host still-quiet lit) (over c asked host still-quiet lit)
 
     -- the row is still the one that was lent
     row-there : e .row ≡ c .row
     unfolding servedAt
     row-there =
-        ap (λ (d : Desk). d .row) (sym due-is) ∙ kept c asked host still-quiet lit (passed u)
+        ap (λ (d : Desk). d .row) (sym (due-is u)) ∙ kept c asked host still-quiet lit (passed u)
 
     -- and as long as the ring, which no call changes
     size : length (e .row) ≡ e .machine .ring .length
@@ -204,7 +188,7 @@ module _ (c : Accepted) (asked : ReadAsked c) where
         ∙ ap (λ (q : Loaded). q .machine .ring .length) (sym (c .call .told))
         ∙ sym (host-fixed host (since c) (passed u) .length)
         ∙ sym (ap (λ (m : Machine). m .ring .length) (calls-bus _ (host .calls (passed u)) (still-quiet (passed u))))
-        ∙ ap (λ (d : Desk). d .machine .ring .length) due-is
+        ∙ ap (λ (d : Desk). d .machine .ring .length) (due-is u)
 
     not-refused : (l : Lines) (r : Passed) (row : List ℕ) → ByteTimeCall (e .machine) l (e .row) r row → r .number ≡ 0
     not-refused l r row call =
@@ -222,10 +206,10 @@ module _ (c : Accepted) (asked : ReadAsked c) where
     ending =
         record {
           goes-on = not-refused;
-          where-one = λ ring late. over-there (omega (arith, within-found c asked host still-quiet lit ring));
+          where-one = λ ring late. by-then (omega (arith, within-found c asked host still-quiet lit ring));
           where-none = λ nowhere late.
               let (k, fifth, same, most) = within-lost c asked host still-quiet lit nowhere in
-              over-there (omega (arith, same, most));
+              by-then (omega (arith, same, most));
         }
 
   -- ---- as it ends

@@ -16,7 +16,6 @@ use Rattle.wd.specs.declared.Loaded.{Loaded}
 use Rattle.wd.specs.declared.Read.{Read}
 use Rattle.wd.specs.declared.Passed.{Passed}
 use Rattle.wd.specs.declared.Ran.{Ran}
-use Rattle.reachable.specs.Sides.{SideOutput}
 use Rattle.safe.specs.Demand1.{SafePowerOn, SafeLoad, SafeRead, SafeByteTime, SafeRun}
 use Rattle.safe.specs.Pictures.{SafePicture}
 use Rattle.safe.specs.Viewer.{SafeView}
@@ -29,6 +28,7 @@ use Rattle.uses.specs.Contracts.{PowerOnCall, PoweredOn, LoadCall, ReadCall, By
 use Rattle.uses.specs.Uses.{Use, documented, Answered, throughout, noCommand, headLoaded, passed, hostOf, IsHost}
 use Rattle.uses.specs.Courses.{notFoundBit, lostDataBit, Shows, Showed, NoErrorBit, FoundGood, Ending, Accepted, since, Course, took, silent, trackOf, SingleRead, SingleWrite, ReadByte, WriteByte}
 use Rattle.uses.specs.Sessions.{WriteThenRead, sessionOf, bytesTaken, lengthCode, bytesLoaded, bytesRead, Serves}
+use Rattle.demands.specs.Requests.{Requests}
 
 -- ---- 1. "Safe on every input: any register byte, track, drive line or machine state. A bad one gets a refusal by number, hands
 -- back the machine as it came and changes no cell of a lent track in that byte time."
@@ -84,10 +84,11 @@ pub record ReadBack (t : WriteThenRead) (p : ℕ) : Type 0 where
 pub record Demand2 : Type 0 where
   pub starts : (size : ℕ) (mfm : Bool) (chip : Chip) (r : Started)
       → PowerOnCall size mfm chip r → r .number ≡ 0 → PoweredOn size mfm chip (r .machine)
-  pub side-output : (m : Machine) → SideOutput m  -- "U goes to the side output at acceptance"; a 1793 has none
   pub exactly : (d e : Desk) (u : Use d e) → (e ≡ documented d u) × Answered d u
   -- any interleaving of runs (any limits), byte times and register calls over one row is a host's
   pub every-use : (d e : Desk) (u : Use d e) → IsHost u
+  -- the side output, and the end of a multiple read
+  pub requests : Requests
   pub reads-back : (t : WriteThenRead) (p : ℕ) → ReadBackAsked t p → ReadBack t p
 
 -- ---- 3. "In time: take a single Read Sector accepted with the drive ready, the head-load line on throughout, no other command

@@ -1,2 +1,3 @@
 -- What was bought, on one page.
+pub mod Requests
 pub mod Demands

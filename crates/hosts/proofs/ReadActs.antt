@@ -1,10 +1,11 @@
 -- What a Read Sector does with a cell after its ID: in the window, and in the data field. Assumes nothing.
-use mathlib.Core.Path.{_≡_}
-use mathlib.Core.Bool.{Bool, not}
+use mathlib.Core.Path.{_≡_, refl}
+use mathlib.Core.Bool.{Bool, true, false, not}
 use Prim.Native.Nat.{ℕ, suc, _+_, _-_, _≤_, _<_}
 use native.Mathlib.Omega.{arith}
 use lib.Dec.{eqb}
 use borrow.Author.Tests.{lt-ltb, le-ltb, le-leb, lt-leb, eq-eqb, ne-eqb}
+use Rattle.common.proofs.Cases.{by-cond}
 use Rattle.crc.specs.Crc.{crcByte}
 use Rattle.command.specs.Bits.{isMultiple}
 use Rattle.scan.specs.Marks.{byteOf, markCrc}
@@ -18,9 +19,28 @@ use Rattle.activity.specs.declared.Activity.the-variants.{Idle, Window, Data}
 use Rattle.activity.specs.declared.Deed.{Deed}
 use Rattle.activity.specs.declared.Deed.the-variants.{Nothing, Deliver, NotFound, Record}
 use Rattle.search.specs.Search.{afterRecord}
-use Rattle.reading.specs.Reading.{windowMissed, windowStep, windowCell, dataCell}
+use Rattle.reading.specs.Reading.{windowMissed, windowStep, windowCell, recordFollows, recordEnd, dataCell}
 use Rattle.act.specs.Turns.{begunActivity, activityAct, actOf}
 use Rattle.hosts.proofs.Views.{View, Outside, cellUnder, seenIn, actIn}
+
+-- ---- after a record
+
+-- a single read is over
+pub single-over : (multiple : Bool) (crc : ℕ) → multiple ≡ false → recordFollows multiple crc ≡ false
+unfolding recordFollows
+single-over multiple crc single = rw single (by-cond (λ b. b ≡ false) (eqb crc 0) (λ e. refl) (λ e. refl))
+
+-- "If there is a CRC error at the end of the data field .. the command is terminated (even if it is a multiple record command)."
+pub bad-over : (multiple : Bool) (crc : ℕ) → (crc ≡ 0 → ⊥) → recordFollows multiple crc ≡ false
+unfolding recordFollows
+bad-over multiple crc bad = rw (ne-eqb crc 0 bad) refl
+
+-- "With m .. the search starts afresh instead"
+pub good-follows : (multiple : Bool) (crc : ℕ) → multiple ≡ true → crc ≡ 0 → recordFollows multiple crc ≡ true
+unfolding recordFollows
+good-follows multiple crc on good = rw (eq-eqb crc 0 good) on
+
+-- ---- a cell
 
 module _ (w : View) (o : Outside) where
   -- it leaves the cell, goes on with this, and does that
@@ -76,7 +96,7 @@ module _ (w : View) (o : Outside) where
     -- "At the second CRC cell: bit 3 if bad, bit 5 on if F8, else off, Busy off, INTRQ. With m .. the search starts afresh"
     pub crc-end :
         left ≡ 1
-        → Does (afterRecord (isMultiple (w .order .byte)))
-        (Record deleted (not (eqb (crcByte crc byte) 0)) (isMultiple (w .order .byte)))
-    unfolding actOf begunActivity activityAct dataCell
+        → Does (afterRecord (recordFollows (isMultiple (w .order .byte)) (crcByte crc byte)))
+        (Record deleted (not (eqb (crcByte crc byte) 0)) (recordFollows (isMultiple (w .order .byte)) (crcByte crc byte)))
+    unfolding actOf begunActivity activityAct recordEnd dataCell
     crc-end e = simp (is, lt-leb 3 left (omega arith), ne-eqb left 2 (omega arith))

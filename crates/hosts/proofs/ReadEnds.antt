@@ -17,7 +17,8 @@ use Rattle.hosts.specs.Scenes.{Scene}
 use Rattle.hosts.proofs.Views.{View}
 use Rattle.hosts.proofs.Courses.{Lasts}
 use Rattle.hosts.proofs.Searching.{reads-two}
-use Rattle.hosts.proofs.Records.{Marked, record-lasts, record-ends}
+use Rattle.hosts.proofs.ReadActs.{single-over}
+use Rattle.hosts.proofs.Records.{Marked, closing, record-lasts, record-ends}
 use Rattle.hosts.proofs.Windows.{NoMarkIn, FirstMarkIn, cellsAfter, Opened, opened-lasts, unmarked, marked, window-some}
 use Rattle.hosts.proofs.Working.{Working, courseOf, Heads, beginning, beginning-track, OverAt, over-at}
 use Rattle.hosts.proofs.Found.{Found, foundSize, found-view, found-lasts}
@@ -64,6 +65,6 @@ module _ {Rows : List ℕ → Type 0} {s : Scene} {w : Working Rows s ReadSector
         → OverAt s (heads .begun + (suc (f .q) + suc u + (foundSize f + 2))) false
     unfolding orderOf
     marked-over single =
-        over-at w heads (record-ends found-marked single)
+        over-at w heads (record-ends found-marked (single-over _ (closing found-marked) single))
         (record-lasts found-marked
         (λ k l. opened-lasts found-opens before u (first .near) (first .none) k (omega arith)))

@@ -29,7 +29,8 @@ use Rattle.hosts.proofs.ByteTimes.{next-regs}
 use Rattle.hosts.proofs.Courses.{AnyRow, ends-once, ended-calm}
 use Rattle.hosts.proofs.Passing.{streamFrom}
 use Rattle.hosts.proofs.Silent.{Silent}
-use Rattle.hosts.proofs.Records.{byteAfter, registerAfter, Marked, data-ring, hands-deed, first-deed, last-deed}
+use Rattle.hosts.proofs.ReadActs.{single-over}
+use Rattle.hosts.proofs.Records.{byteAfter, registerAfter, Marked, closing, data-ring, hands-deed, first-deed, last-deed}
 use Rattle.hosts.proofs.Windows.{FirstMarkIn, cellsAfter, Opened, awaits-deed}
 use Rattle.hosts.proofs.Searching.{reads-two}
 use Rattle.hosts.proofs.Working.{TakenUp, OverAt, Working, ended-working, courseOf, Heads, heads-by, beginning}
@@ -191,8 +192,8 @@ module _ {s : Scene} {n : ℕ} (r : Meets s n) where
       let e : begun + (m + suc size) ≡ i = omega (arith, u-is) in
       ap doing (sym e)
       ∙ last-deed met
-      ∙ ap₂ (λ (register : ℕ) (multiple : Bool). Record (isDeleted (r .mark)) (not (eqb register 0)) multiple) closes
-      (r .reads .single)
+      ∙ ap₂ (λ (register : ℕ) (another : Bool). Record (isDeleted (r .mark)) (not (eqb register 0)) another) closes
+      (single-over _ (closing met) (r .reads .single))
 
   pub moves : (i : ℕ) → start ≤ i → i < n → Moves (doing i)
   moves i l g = by (decLt i from) (decLt i (from + size)) (ℕ-discrete i (from + size))

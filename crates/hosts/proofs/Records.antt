@@ -13,11 +13,13 @@ use Rattle.scan.specs.Marks.{byteOf}
 use Rattle.command.specs.Bits.{isMultiple}
 use Rattle.activity.specs.Acts.{pass}
 use Rattle.activity.specs.Limits.{busyIn}
+use Rattle.activity.specs.declared.Act.{Act}
 use Rattle.activity.specs.declared.Activity.{Activity}
 use Rattle.activity.specs.declared.Activity.the-variants.{Idle, Data}
 use Rattle.activity.specs.declared.Deed.the-variants.{Nothing, Deliver, Record}
 use Rattle.search.specs.Search.{afresh, afterRecord}
-use Rattle.effects.proofs.Apart.{regsAfter}
+use Rattle.reading.specs.Reading.{recordFollows}
+use Rattle.effects.proofs.Apart.{regsAfter, flagsAfter}
 use Rattle.effects.specs.Effects.{raisedSr, effectOf, delivered, addressNamed, recordOver, recordRead, cellTaken, stepped, halted}
 use Rattle.reachable.specs.ByteTimes.{turnsOn}
 use Rattle.hosts.specs.Bytes.{deedAt}
@@ -26,7 +28,7 @@ use Rattle.hosts.proofs.Keeps.{nothing-keeps, deliver-keeps, record-kee
 use Rattle.hosts.proofs.Views.{View, viewWith, viewOf, loses, Outside, cellUnder, seenIn}
 use Rattle.hosts.proofs.ReadActs.{Does, data-on, crc-on, crc-end}
 use Rattle.hosts.proofs.Courses.{Course, deskAt, besideAt, Lasts}
-use Rattle.hosts.proofs.Phases.{stands, PassesTo, Stands, stands-lasts, deed-is, acts-within, acts-on, passes-on, lasts-from}
+use Rattle.hosts.proofs.Phases.{stands, PassesTo, Stands, stands-lasts, deed-is, flags-on, acts-within, acts-on, passes-on, lasts-from}
 use Rattle.hosts.proofs.Passing.{OnTrack, cell-at}
 use Rattle.hosts.proofs.Windows.{cellsAfter}
 
@@ -81,15 +83,19 @@ module _ {Rows : List ℕ → Type 0} {c : Course Rows} {t : ℕ} {v : View} {m 
     -- and the second
     last-act :
         i ≡ suc size
-        → Does reading o (afterRecord (isMultiple (v .order .byte)))
-        (Record deleted (not (eqb (registerAfter v m crc (suc i)) 0)) (isMultiple (v .order .byte)))
+        → Does reading o (afterRecord (recordFollows (isMultiple (v .order .byte)) (registerAfter v m crc (suc i))))
+        (Record deleted (not (eqb (registerAfter v m crc (suc i)) 0))
+        (recordFollows (isMultiple (v .order .byte)) (registerAfter v m crc (suc i))))
     unfolding sumAfter
     last-act e =
         crc-end reading o (size + 2 - i) _ deleted refl (omega arith)
-        ∙ ap (λ (b : ℕ).
-        pass (seenIn reading o) (afterRecord (isMultiple (v .order .byte)))
-        (Record deleted (not (eqb (crcByte (registerAfter v m crc i) b) 0)) (isMultiple (v .order .byte))))
-        same-byte
+        ∙ ap (λ (b : ℕ). ended (crcByte (registerAfter v m crc i) b)) same-byte
+      where
+        -- with this register after its CRC
+        ended : ℕ → Act
+        ended sum =
+            pass (seenIn reading o) (afterRecord (recordFollows (isMultiple (v .order .byte)) sum))
+            (Record deleted (not (eqb sum 0)) (recordFollows (isMultiple (v .order .byte)) sum))
 
     reads-act : i < suc size → PassesTo reading o (dataAt (suc i))
     reads-act l = by (decLt i size)
@@ -134,37 +140,55 @@ module _ {Rows : List ℕ → Type 0} {c : Course Rows} {t : ℕ} {v : View} {m 
   unfolding busyIn
   first-deed = deed-is c t v (reads size (omega arith)) refl (r .rows) (first-act size _ refl)
 
+  -- the register after its CRC, and whether another record follows
+  abbrev pub closing : ℕ
+  closing = registerAfter v m crc (suc (suc size))
+
+  abbrev pub follows : Bool
+  follows = recordFollows (isMultiple (v .order .byte)) (registerAfter v m crc (suc (suc size)))
+
   pub last-deed :
       deedAt (c .host) (c .desk) (t + (m + suc size))
-      ≡ Record deleted (not (eqb (registerAfter v m crc (suc (suc size))) 0)) (isMultiple (v .order .byte))
+      ≡ Record deleted (not (eqb (registerAfter v m crc (suc (suc size))) 0))
+      (recordFollows (isMultiple (v .order .byte)) (registerAfter v m crc (suc (suc size))))
   unfolding busyIn
   last-deed = deed-is c t v (reads (suc size) (omega arith)) refl (r .rows) (last-act (suc size) _ refl)
+
+  -- what it leaves in the status bits
+  pub record-flags :
+      deskAt c (t + (m + (size + 2))) .machine .flags
+      ≡ flagsAfter (deskAt c (t + (m + suc size)) .machine .flags) (besideAt c (t + (m + suc size)) .drq)
+      (Record deleted (not (eqb closing 0)) follows)
+  unfolding busyIn
+  record-flags =
+      let e : suc (m + suc size) ≡ m + (size + 2) = omega arith in
+      rw e at (flags-on c t v (reads (suc size) (omega arith)) refl (r .rows) (last-act (suc size) _ refl))
 
   -- ---- its end
 
   -- "At the second CRC cell: .. Busy off, INTRQ."
-  pub record-ends : isMultiple (v .order .byte) ≡ false → Stands c t v (m + (size + 2)) (v .missing) Idle
+  pub record-ends : follows ≡ false → Stands c t v (m + (size + 2)) (v .missing) Idle
   unfolding busyIn afterRecord
-  record-ends single =
+  record-ends last =
       let e : suc (m + suc size) ≡ m + (size + 2) = omega arith in
       rw e at
       (passes-on c t v (r .rows) (reads (suc size) (omega arith)) refl
       (record {
-        deed = Record deleted (not (eqb (registerAfter v m crc (suc (suc size))) 0)) false;
-        acts = rw single at (last-act (suc size) (besideAt c (t + (m + suc size))) refl);
+        deed = Record deleted (not (eqb closing 0)) false;
+        acts = rw last at (last-act (suc size) (besideAt c (t + (m + suc size))) refl);
         keeps = record-keeps deleted _;
       }))
 
   -- "With m, SR goes up by one (255 to 0) and the search starts afresh instead": what its first byte time finds
   pub record-again :
-      isMultiple (v .order .byte) ≡ true
+      follows ≡ true
       → Stands c (t + (m + (size + 2))) (raisedIn v (m + (size + 2))) 0 (v .missing) (afresh 0)
   unfolding busyIn afterRecord regsAfter loses turnsOn effectOf delivered addressNamed recordOver recordRead cellTaken stepped halted
-  record-again multiple =
+  record-again another =
       let here = reads (suc size) (omega arith) in
       let e : suc (m + suc size) ≡ m + (size + 2) = omega arith in
       let on : t + suc (m + suc size) ≡ t + (m + (size + 2)) + 0 = omega arith in
-      let act = rw multiple at (last-act (suc size) (besideAt c (t + (m + suc size))) refl) in
+      let act = rw another at (last-act (suc size) (besideAt c (t + (m + suc size))) refl) in
       record {
         inside = rw on at (acts-within c t v here refl);
         view =

@@ -242,7 +242,7 @@ module _ {Rows : List ℕ → Type 0} {s : Scene} {command : Command} (w : Worki
         }
 
     -- up to there it is Busy, and moves no byte
-    waits-lasts : (k : ℕ) → k < heads .begun → Lasts courseOf (s .row) k
+    pub waits-lasts : (k : ℕ) → k < heads .begun → Lasts courseOf (s .row) k
     waits-lasts k l = wait-lasts k (λ i m h. heads .off i m (omega arith))
 
     pub waits-silent : TypeTwo (jobOf command) → (k : ℕ) → k < heads .begun → Silent (deedAt (s .host) (loaded s) k)

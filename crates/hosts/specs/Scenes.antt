@@ -61,6 +61,12 @@ unfoldable pub fieldBytes : Chip → ℕ → ℕ → ℕ
 fieldBytes Wd1793 byte code = byCode 128 256 512 1024 code
 fieldBytes Wd1797 byte code = cond (bitOf byte 3) (byCode 128 256 512 1024 code) (byCode 256 512 1024 128 code)
 
--- "4 .. Record Not Found": a bit of the status byte that a read hands back under these lines
+-- "5 .. deleted mark (read); 4 .. Record Not Found; 3 CRC": bits of the status byte that a read hands back under these lines
+abbrev pub deletedMark : Machine → Lines → Bool
+deletedMark m l = bitOf (readRegister m l 0 .byte) 5
+
 abbrev pub notFound : Machine → Lines → Bool
 notFound m l = bitOf (readRegister m l 0 .byte) 4
+
+abbrev pub crcError : Machine → Lines → Bool
+crcError m l = bitOf (readRegister m l 0 .byte) 3

@@ -1,5 +1,5 @@
--- Read Sector after its ID, Read Address and Read Track: document 01, "Moving bytes". Assumes nothing.
-use mathlib.Core.Bool.{Bool, cond, not}
+-- Read Sector after its ID, Read Address and Read Track: document 01, "Moving bytes", and request b. Assumes nothing.
+use mathlib.Core.Bool.{Bool, false, cond, not}
 use Prim.Native.Nat.{ℕ, _+_, _-_}
 use lib.Dec.{ltb, leb, eqb}
 use Rattle.crc.specs.Crc.{crcByte}
@@ -32,15 +32,25 @@ windowStep s left passed (Met mark) = pass s (Data left (markCrc (s .mfm) (markB
 unfoldable pub windowCell : Seen → ℕ → ℕ → ℕ → Act
 windowCell s left passed run = windowStep s left passed (dataMarkStep (s .mfm) (s .cell) run)
 
--- "Each data byte, flags ignored, goes to DR and sets DRQ". "At the second CRC cell: bit 3 if bad, bit 5 on if F8, else off,
--- Busy off, INTRQ. With m, SR goes up by one": left counts the two CRC cells too.
+-- whether another record follows, by the register after this one's CRC: "With m, SR goes up by one .. and the search starts afresh
+-- instead", but (004) "If there is a CRC error at the end of the data field, the CRC error status bit is set, and the command is
+-- terminated (even if it is a multiple record command)."
+unfoldable pub recordFollows : Bool → ℕ → Bool
+recordFollows multiple crc = cond (eqb crc 0) multiple false
+
+-- "At the second CRC cell: bit 3 if bad, bit 5 on if F8, else off, Busy off, INTRQ."
+unfoldable pub recordEnd : Seen → Bool → ℕ → Bool → Act
+recordEnd s multiple crc deleted =
+    pass s (afterRecord (recordFollows multiple crc)) (Record deleted (not (eqb crc 0)) (recordFollows multiple crc))
+
+-- "Each data byte, flags ignored, goes to DR and sets DRQ": left counts the two CRC cells too
 unfoldable pub dataCell : Seen → Bool → ℕ → ℕ → Bool → Act
 dataCell s multiple left crc deleted =
     cond (leb 3 left)
     (pass s (Data (left - 1) (crcByte crc (byteOf (s .cell))) deleted) (Deliver (byteOf (s .cell))))
     (cond (eqb left 2)
     (pass s (Data 1 (crcByte crc (byteOf (s .cell))) deleted) Nothing)
-    (pass s (afterRecord multiple) (Record deleted (not (eqb (crcByte crc (byteOf (s .cell))) 0)) multiple)))
+    (recordEnd s multiple (crcByte crc (byteOf (s .cell))) deleted))
 
 -- ---- Read Address
 

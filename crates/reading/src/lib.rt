@@ -1,6 +1,6 @@
 // Read Sector after its ID, Read Address and Read Track.
 ghost use mathlib.Core.Path.{_≡_};
-ghost use Rattle.reading.specs.Reading.{windowMissed, windowStep, windowCell, dataCell, addressBegun, huntStep, huntCell, addressTrack, addressCell, trackCell};
+ghost use Rattle.reading.specs.Reading.{windowMissed, windowStep, windowCell, recordFollows, dataCell, addressBegun, huntStep, huntCell, addressTrack, addressCell, trackCell};
 use activity::Act;
 use activity::Activity;
 use activity::Deed;
@@ -51,6 +51,13 @@ pub fn window(s: Seen, left: u16, passed: u8, run: u8) -> Act
     met(s, left, passed, scan::seek_data(s.mfm, s.cell, run))
 }
 
+// Whether another record follows one that closes with this register.
+fn follows(multiple: bool, crc: u16) -> bool
+    ensures { λ r. ⌜ r ≡ recordFollows multiple crc ⌝ }
+{
+    if crc == 0 { multiple } else { false }
+}
+
 // A cell of a data field.
 pub fn read(s: Seen, multiple: bool, left: u16, crc: u16, deleted: bool) -> Act
     ensures { λ r. ⌜ r ≡ dataCell s multiple left crc deleted ⌝ }
@@ -71,9 +78,10 @@ pub fn read(s: Seen, multiple: bool, left: u16, crc: u16, deleted: bool) -> Act
             cell: s.cell,
         };
     }
+    let another = follows(multiple, next);
     Act {
-        next: again(multiple),
-        deed: Deed::Record(deleted, next != 0, multiple),
+        next: again(another),
+        deed: Deed::Record(deleted, next != 0, another),
         cell: s.cell,
     }
 }

@@ -60,7 +60,7 @@ afterMatch ibm length job.WriteTrack = Idle
 abbrev pub afresh : ℕ → Activity
 afresh pulses = Search pulses (Gap 0)
 
--- after a record: "With m .. the search starts afresh instead; a bad data CRC does not stop it"; without m the command is over
+-- after a record: where another follows, "the search starts afresh instead"; else the command is over
 unfoldable pub afterRecord : Bool → Activity
 afterRecord follows = cond follows (afresh 0) Idle
 

@@ -5,7 +5,9 @@ pub mod QuietUse
 pub mod Statuses
 pub mod Heads
 pub mod Endings
+pub mod Over
 pub mod Decoding
+pub mod Multiples
 pub mod Sessions
 pub mod Bytes
 pub mod Serves

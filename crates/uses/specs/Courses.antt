@@ -112,6 +112,10 @@ trackOf c = sceneOf c silent
 abbrev pub courseThen : {c : Accepted} → Course c → Host → Host
 courseThen course h = hostOf (course .calls) (madeThen (course .last) h)
 
+-- the command with its course, after which the host makes no call
+abbrev pub courseScene : {c : Accepted} → Course c → Scene
+courseScene {c} course = sceneOf c (courseThen course silent)
+
 -- ---- which command
 
 -- "even 80-9E Read Sector"; "Bits of Type II: 4 m, ..": with m or without
@@ -123,6 +127,9 @@ pub record SectorRead (multiple : Bool) (b : ℕ) : Type 0 where
 
 abbrev pub SingleRead : ℕ → Type 0
 SingleRead = SectorRead false
+
+abbrev pub MultipleRead : ℕ → Type 0
+MultipleRead = SectorRead true
 
 -- "A0-BF Write Sector", a single one
 pub record SingleWrite (b : ℕ) : Type 0 where

@@ -3,3 +3,4 @@ pub mod Contracts
 pub mod Uses
 pub mod Courses
 pub mod Sessions
+pub mod Multiples

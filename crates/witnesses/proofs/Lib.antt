@@ -10,3 +10,4 @@ pub mod Runs
 pub mod Sessions
 pub mod Scenes
 pub mod LateWrites
+pub mod Multiples

@@ -7,6 +7,7 @@ mod forcing;
 mod formatting;
 mod leave;
 mod length_flag;
+mod multiple_read;
 mod power_on;
 mod reading;
 mod refusing;
@@ -22,8 +23,8 @@ mod writing;
 
 use super::step::{Outcome, Step};
 
-/// All subjects, in the order of document 01; after them those of request i.
-pub const SUBJECTS: [&Subject; 16] = [
+/// All subjects, in the order of document 01; after them those of requests i and b.
+pub const SUBJECTS: [&Subject; 17] = [
     &ring::SUBJECT,
     &power_on::SUBJECT,
     &refusing::SUBJECT,
@@ -40,6 +41,7 @@ pub const SUBJECTS: [&Subject; 16] = [
     &chips::SUBJECT,
     &sides::SUBJECT,
     &length_flag::SUBJECT,
+    &multiple_read::SUBJECT,
 ];
 
 pub struct Subject {

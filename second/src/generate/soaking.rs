@@ -1,5 +1,6 @@
 // The scenes of a soak, and Write Track by a host that comes often.
 
+use super::chaining::CHAINS;
 use super::timing::{BEGINNINGS, RECORDS};
 use super::turns::SHORT_SCENES;
 use super::{accepting, forcing, Generator, HEAD_LOADED, READY};
@@ -38,7 +39,10 @@ impl Generator {
                 let record = self.random.pick(&RECORDS);
                 self.record_scene(record);
             }
-            16..=18 => self.chain_scene(),
+            16..=18 => {
+                let chain = self.random.pick(&CHAINS);
+                self.chain_scene(chain);
+            }
             19..=26 => {
                 let pair = self.random.pick(&forcing::pairs());
                 self.forcing_scene(pair);

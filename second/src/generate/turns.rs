@@ -1,6 +1,6 @@
 // What every script begins with, so that some hundred seeds in a row meet all of it.
 
-use super::{accepting, commands, forcing, refusing, timing, Generator};
+use super::{accepting, chaining, commands, forcing, refusing, timing, Generator};
 
 /// Scenes of some lines each.
 pub const SHORT_SCENES: [fn(&mut Generator); 19] = [
@@ -26,16 +26,14 @@ pub const SHORT_SCENES: [fn(&mut Generator); 19] = [
 ];
 /// Commands that a script loads while something is on.
 const LOADINGS: u64 = 7;
-/// One seed in so many has no chain of records, which takes some hundred lines.
-const NO_CHAIN_ONE_IN: u64 = 3;
 /// One seed in so many has the viewer look.
 const VIEW_ONE_IN: u64 = 4;
 
 impl Generator {
     /// Each byte that is no command, on both chips. On one of them each Type I command and each
     /// sector command; each length read and written; each command that settles; each Force
-    /// Interrupt in each activity. On the other each command with DRQ, INTRQ and each condition off
-    /// and on, and every short scene.
+    /// Interrupt in each activity. On the other each chain of records; each command with DRQ, INTRQ
+    /// and each condition off and on; and every short scene.
     pub fn take_turns(&mut self, seed: u64) {
         self.load_no_command(seed);
         let type_one: Vec<u8> = (0x00..0x80).collect();
@@ -47,9 +45,7 @@ impl Generator {
         self.forcing_scene(in_turn(&forcing::pairs(), seed));
         self.change_chip();
         self.load_no_command(seed);
-        if seed % NO_CHAIN_ONE_IN != 0 {
-            self.chain_scene();
-        }
+        self.chain_scene(in_turn(&chaining::CHAINS, seed));
         for turn in 0..LOADINGS {
             let number = seed.wrapping_mul(LOADINGS).wrapping_add(turn);
             self.loading_scene(in_turn(&accepting::loadings(), number));

@@ -2,6 +2,7 @@
 
 mod chips;
 mod met;
+mod multiple;
 mod runs;
 mod stretches;
 
@@ -157,7 +158,7 @@ fn met_by_fewer(keys: Vec<String>, scripts: usize) -> Vec<String> {
 
 #[test]
 fn together_the_scripts_meet_everything_they_should() {
-    let keys = [wanted(), chips::wanted()].concat();
+    let keys = [wanted(), chips::wanted(), multiple::wanted()].concat();
     assert_eq!(met_by_fewer(keys, 1), Vec::<String>::new());
 }
 

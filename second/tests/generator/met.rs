@@ -17,11 +17,15 @@ use second::status::StatusType;
 #[derive(Default)]
 pub struct Met {
     keys: BTreeSet<String>,
+    /// Records after which the read under way has gone on.
+    records: usize,
 }
 
 /// What a byte time began with.
 struct Before {
     name: &'static str,
+    /// A record is being read with m.
+    reads_multiple: bool,
     /// Cells that have passed in the window after an ID.
     in_window: usize,
     position: u16,
@@ -38,6 +42,10 @@ impl Before {
     fn of(machine: &Machine) -> Before {
         Before {
             name: machine.activity.name(),
+            reads_multiple: match &machine.activity {
+                Activity::ReadingRecord(read) => read.command.multiple(),
+                _ => false,
+            },
             in_window: match &machine.activity {
                 Activity::AwaitingDataMark(window) => window.passed.len(),
                 _ => 0,
@@ -167,6 +175,7 @@ impl Met {
                 self.note(format!("command {:02X} {}", byte, density));
             }
             Some(command) if !machine.is_busy() => {
+                self.records = 0;
                 self.note(format!("command {:02X}", byte));
                 self.note(format!("command {:02X} of the {}", byte, chip));
                 self.note(format!("{:?} {}", command.name, density));
@@ -316,9 +325,7 @@ impl Met {
             Activity::WritingRecord(write) => {
                 self.note_record("write", write.size, write.command, machine);
             }
-            Activity::Searching(_) if before.sector == 255 && machine.sector == 0 => {
-                self.note("SR from 255 to 0".to_string());
-            }
+            Activity::Searching(_) => self.note_next_record(before, machine),
             Activity::Idle => self.note_end(before, bench),
             _ => {}
         }
@@ -331,8 +338,17 @@ impl Met {
         self.note(format!("{} {} {:?} of the {}", done, size, codes, chip));
     }
 
+    /// A search begins, of a command or of m.
+    fn note_next_record(&mut self, before: &Before, machine: &Machine) {
+        self.records += usize::from(before.reads_multiple);
+        if before.sector == 255 && machine.sector == 0 {
+            self.note("SR from 255 to 0".to_string());
+        }
+    }
+
     fn note_end(&mut self, before: &Before, bench: &Bench) {
         let machine = &bench.machine;
+        self.note_end_of_multiple(before, machine);
         let density = density_name(machine.density);
         if machine.status.not_found {
             self.note(format!("not found in {} {}", before.name, density));
@@ -342,6 +358,25 @@ impl Met {
         }
         if before.name == "AwaitingDataMark" && mark_is_next(bench) {
             self.note(format!("mark past the window's end {}", density));
+        }
+    }
+
+    /// What ended a read with m, and after how many records.
+    fn note_end_of_multiple(&mut self, before: &Before, machine: &Machine) {
+        let (chip, density) = (chip_name(machine.chip), density_name(machine.density));
+        let (good, bit_3) = (self.records, u8::from(machine.status.crc_error));
+        if before.reads_multiple {
+            let mark = ["FB", "F8"][usize::from(machine.status.deleted)];
+            let drq = u8::from(machine.data_request);
+            self.note(format!(
+                "m: {} good, then {} broken {}",
+                good, mark, density
+            ));
+            self.note(format!("m: broken, {}, DRQ {}", chip, drq));
+            self.note(format!("m: broken, SR {}", machine.sector));
+        } else if good > 0 && machine.status.not_found {
+            self.note(format!("m: not found in {} {}", before.name, density));
+            self.note(format!("m: not found, {}, bit 3 {}", chip, bit_3));
         }
     }
 }

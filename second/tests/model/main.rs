@@ -5,6 +5,7 @@ mod calls;
 mod cases;
 mod chips;
 mod desk;
+mod multiple;
 mod reading;
 mod searching;
 mod sides;

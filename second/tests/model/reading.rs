@@ -10,16 +10,20 @@ use crate::desk::{Desk, Fm, BOTH, NO_LIMIT};
 fn desk_with_sectors(density: Density, marks: &[u8]) -> Desk {
     let mut desk = Desk::new(density);
     for (index, &mark) in marks.iter().enumerate() {
-        let sector = index as u8 + 1;
-        let place = 100 + 300 * index;
-        desk.put_id_before(place, [0, 0, sector, 0]);
-        desk.put_data(place + 10, mark, &[sector; 128]);
+        put_sector(&mut desk, index, [0, 0, index as u8 + 1, 0], mark);
     }
     desk
 }
 
-/// The place of the second CRC cell of a record laid by `desk_with_sectors`.
-fn last_crc_cell(density: Density, index: usize) -> usize {
+/// Lays the sector with this index: its ID, and 128 times its number.
+pub fn put_sector(desk: &mut Desk, index: usize, id: [u8; 4], mark: u8) {
+    let place = 100 + 300 * index;
+    desk.put_id_before(place, id);
+    desk.put_data(place + 10, mark, &[id[2]; 128]);
+}
+
+/// The place of the second CRC cell of the sector with this index.
+pub fn last_crc_cell(density: Density, index: usize) -> usize {
     100 + 300 * index + 10 + field::mark_length(density) + 128 + 1
 }
 
@@ -128,26 +132,6 @@ fn bit_5_is_kept_where_the_next_record_is_not_found() {
         assert_eq!(desk.status(), expected);
         assert_eq!(desk.machine.sector, 3);
     }
-}
-
-#[test]
-fn bit_3_of_a_bad_record_stays_until_a_good_match() {
-    let mut desk = desk_with_sectors(Fm, &[0xFB, 0xFB]);
-    desk.track[last_crc_cell(Fm, 0)] ^= 1;
-    desk.command(0x90);
-    desk.go_to(390);
-    assert_eq!(desk.status() & (CRC_ERROR | BUSY), CRC_ERROR | BUSY);
-    desk.go_to(400);
-    assert_eq!(desk.status() & CRC_ERROR, 0);
-}
-
-#[test]
-fn a_fresh_search_alone_does_not_clear_bit_3() {
-    let mut desk = desk_with_sectors(Fm, &[0xFB]);
-    desk.track[last_crc_cell(Fm, 0)] ^= 1;
-    desk.command(0x90);
-    assert_eq!(desk.serve_reads().bytes.len(), 128);
-    assert_eq!(desk.status(), NOT_FOUND | CRC_ERROR);
 }
 
 #[test]

@@ -3,7 +3,7 @@ use mathlib.Core.Path.{sym}
 use borrow.Author.Needs.{needs}
 use borrow.Author.Tests.{eq-eqb, le-leb, lt-leb, ne-eqb}
 use Rattle.reading.proofs.read.Statement.{statement}
-use Rattle.reading.specs.Reading.{dataCell}
+use Rattle.reading.specs.Reading.{recordEnd, dataCell}
 use Rattle.reading.proofs.read.Tie as tie
 
 cast-byte : tie.Need-cast-byte
@@ -12,8 +12,8 @@ cast-byte c = search needs
 step-requires : tie.Need-step-requires
 step-requires c κs = search needs
 
-sub-t10 : tie.Need-sub-t10
-sub-t10 c = search needs
+sub-t11 : tie.Need-sub-t11
+sub-t11 c = search needs
 
 returns : tie.Need-returns
 unfolding dataCell
@@ -28,19 +28,23 @@ returns-2 c =
       sym (c .before .before .step .ensures),
     )
 
+follows-requires : tie.Need-follows-requires
+follows-requires c κs = search needs
+
 again-requires : tie.Need-again-requires
 again-requires c κs = search needs
 
 returns-3 : tie.Need-returns-3
-unfolding dataCell
+unfolding dataCell recordEnd
 returns-3 c =
     simp (
       c .again .ensures,
-      ne-eqb _ _ (c .before .if2 .left),
-      lt-leb _ _ (c .before .before .if1 .left),
-      sym (c .before .before .before .step .ensures),
+      sym (c .before .follows .ensures),
+      ne-eqb _ _ (c .before .before .if2 .left),
+      lt-leb _ _ (c .before .before .before .if1 .left),
+      sym (c .before .before .before .before .step .ensures),
     )
 
 pub read-spec : {M : Type 1} → statement M
 read-spec =
-    tie.close (tie.spec cast-byte step-requires sub-t10 returns returns-2 again-requires returns-3)
+    tie.close (tie.spec cast-byte step-requires sub-t11 returns returns-2 follows-requires again-requires returns-3)

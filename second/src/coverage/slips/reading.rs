@@ -76,15 +76,13 @@ const SENTENCES: &[Sentence] = &[
         ],
     },
     Sentence {
-        says: "With m, SR goes up by one (255 to 0) and the search starts afresh instead; a bad \
-               data CRC does not stop it (003).",
+        says: "With m, SR goes up by one (255 to 0) and the search starts afresh instead",
         slips: &[
             slip("m is not looked at", goes_on, turn::busy_off),
             slip("SR stays", goes_on, leave::sector),
             slip("SR stays at 255", goes_on, stay_at_255),
             slip("SR goes up without m", ends_single, go_up),
             slip("pulses are not afresh", goes_on, count_one_pulse),
-            slip("a bad data CRC stops it", goes_on, stop_if_bad),
         ],
     },
     Sentence {
@@ -131,7 +129,8 @@ fn window<'a>(step: &'a Step) -> Option<&'a Window> {
     }
 }
 
-fn record<'a>(step: &'a Step) -> Option<&'a RecordRead> {
+/// The record that Read Sector reads in this byte time.
+pub fn record<'a>(step: &'a Step) -> Option<&'a RecordRead> {
     match &step.before.activity {
         Activity::ReadingRecord(read) if step.passes() => Some(read),
         _ => None,
@@ -225,15 +224,17 @@ fn is_flagged_data(step: &Step) -> bool {
 }
 
 /// Which cell after the data this is, counted from 1.
-fn cell_after_data(step: &Step) -> Option<usize> {
+pub fn cell_after_data(step: &Step) -> Option<usize> {
     cell_after_mark(step)?.checked_sub(record(step)?.size)
 }
 
-fn is_first_crc_cell(step: &Step) -> bool {
+/// The first CRC cell of a record that is read.
+pub fn is_first_crc_cell(step: &Step) -> bool {
     cell_after_data(step) == Some(1)
 }
 
-fn ends_record(step: &Step) -> bool {
+/// The second CRC cell of a record that is read.
+pub fn ends_record(step: &Step) -> bool {
     cell_after_data(step) == Some(2)
 }
 
@@ -242,31 +243,28 @@ fn leave_deleted(step: &Step, wrong: &mut Outcome) {
 }
 
 /// The record ends, but not the command.
-fn goes_on(step: &Step) -> bool {
+pub fn goes_on(step: &Step) -> bool {
     ends_record(step) && !step.ends()
 }
 
+/// The record of a command without m ends.
 fn ends_single(step: &Step) -> bool {
-    ends_record(step) && step.ends()
+    let is_single = record(step).map_or(false, |read| !read.command.multiple());
+    is_single && ends_record(step)
 }
 
 fn stay_at_255(step: &Step, wrong: &mut Outcome) {
     wrong.machine.sector = step.before.sector.saturating_add(1);
 }
 
-fn go_up(step: &Step, wrong: &mut Outcome) {
+/// SR goes up by one.
+pub fn go_up(step: &Step, wrong: &mut Outcome) {
     wrong.machine.sector = step.before.sector.wrapping_add(1);
 }
 
 fn count_one_pulse(_: &Step, wrong: &mut Outcome) {
     if let Activity::Searching(search) = &mut wrong.machine.activity {
         search.pulses = 1;
-    }
-}
-
-fn stop_if_bad(_: &Step, wrong: &mut Outcome) {
-    if wrong.machine.status.crc_error {
-        wrong.end();
     }
 }
 

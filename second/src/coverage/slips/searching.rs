@@ -105,7 +105,8 @@ fn meets_good_match(step: &Step) -> bool {
     step.id().map_or(false, such)
 }
 
-fn meets_bad_match(step: &Step) -> bool {
+/// An ID ends that the command asks for, but with a bad CRC.
+pub fn meets_bad_match(step: &Step) -> bool {
     let such = |id: Id| !id.crc_good && matches(step, id);
     step.id().map_or(false, such)
 }

@@ -1,0 +1,2 @@
+-- Request b.
+pub mod Multiple

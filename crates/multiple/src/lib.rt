@@ -1,0 +1,1 @@
+// A multiple read ends at a broken record: definitions and theorems, no code.
