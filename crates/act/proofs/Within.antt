@@ -8,14 +8,13 @@ use lib.Dec.{ltb, leb, eqb}
 use borrow.Author.Tests.{ltb-true, leb-true, leb-false, le-leb}
 use Rattle.common.proofs.Cases.{by-cond, both, all}
 use Rattle.scan.specs.declared.Passed.{Passed}
-use Rattle.scan.specs.declared.Sought.{Sought}
 use Rattle.scan.specs.declared.Scan.{Scan}
 use Rattle.scan.specs.declared.Heard.{Heard}
 use Rattle.scan.specs.Marks.{unflagged, sync, syncs, leadOf, carriesMark, syncRun, markStep}
-use Rattle.scan.specs.DataMarks.{dataMarkOf, dataMarkIn, dataMarkStep, longestWindow}
+use Rattle.scan.specs.DataMarks.{longestWindow}
 use Rattle.scan.specs.Ids.{lastIdCell, idBegun, pushedOf, idByteStep, runIn, idCellStep, idMarkStep, idStep}
-use Rattle.scan.specs.Streams.{runPast, soughtPast, scanPast}
-use Rattle.scan.proofs.DataMarks.{window-most}
+use Rattle.scan.specs.Streams.{runPast, scanPast}
+use Rattle.scan.proofs.DataMarks.{window-most, data-run}
 use Rattle.command.specs.Bits.{isMultiple}
 use Rattle.command.specs.Commands.{jobOf}
 use Rattle.command.specs.Times.{settleTimeOf}
@@ -53,15 +52,6 @@ row mfm cell run =
     by-cond (λ p. Row (runPast p)) (leb (leadOf mfm) run && carriesMark mfm cell)
     (λ e. refl)
     (λ e. by-cond Row (eqb cell sync) (λ f. by-cond Row (ltb run syncs) (λ g. omega tests) (λ g. refl)) (λ f. refl))
-
-data-row : (p : Passed) → Row (runPast p) → Row (soughtPast (dataMarkIn p))
-unfolding dataMarkIn dataMarkOf runPast soughtPast
-data-row (Passed.Gap run) h = h
-data-row (Passed.Mark b) h =
-    by-cond Past (eqb b 0xFB) (λ e. refl) (λ e. by-cond Past (eqb b 0xF8) (λ f. refl) (λ f. refl))
-  where
-    Past : Sought → Type 0
-    Past x = Row (soughtPast x)
 
 looked : (mfm : Bool) (cell : ℕ) (scan : Scan) (p : Passed) → Row (runPast p) → GoesOn (idMarkStep mfm cell scan p)
 unfolding idMarkStep idCellStep idByteStep pushedOf idBegun runPast scanPast scanWithin
@@ -116,7 +106,7 @@ begun-within s Job.WriteTrack = by-cond IsWithin (s .index && not (s .drq)) (λ 
 
 module _ (o : Order) (s : Seen) where
   passed : {a next : Activity} {deed : Deed} → Passes o s a next deed → IsWithin a → IsWithin next
-  unfolding countsWithin scanWithin idStep dataMarkStep
+  unfolding countsWithin scanWithin idStep
   passed Passes.idles h = refl
   passed (Passes.seek-waits e) h = omega tests
   passed (Passes.seek-steps e) h = omega (tests, step-time-most (s .mfm) (o .byte))
@@ -134,7 +124,7 @@ module _ (o : Order) (s : Seen) where
   passed (Passes.mark-met {left} {n} {run}) h = field left n run h
   passed (Passes.window-goes-on {left} {n} {run} less e) h =
       let more = le-leb (n + 1) (longestWindow - 1) (omega (arith, window-most (s .mfm))) in
-      simp (field left n run h, more, e, data-row (markStep (s .mfm) (s .cell) run) (row (s .mfm) (s .cell) run))
+      simp (field left n run h, more, e, data-run (s .mfm) (s .cell) run, row (s .mfm) (s .cell) run)
   passed Passes.window-fails h = refl
   passed (Passes.data-byte e) h = omega tests
   passed (Passes.data-crc e) h = refl

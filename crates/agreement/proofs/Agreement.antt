@@ -58,7 +58,7 @@ module _ (s : Scene) (n p from to : ℕ) (reading : Reads s n)
         stays = simp (reading .ready);
       }
 
-  abbrev command : through.EndedRead s n
+  abbrev command : through.EndedSingle s n
   command =
       record {
         given = given;

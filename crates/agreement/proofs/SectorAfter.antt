@@ -1,30 +1,25 @@
 -- What the viewer takes for the data field of a sector is one that a Read Sector meets after the ID: the same mark, the same
 -- cells, the CRC good. Assumes nothing.
 use mathlib.Core.Path.{_≡_, refl, sym, ap, _∙_}
-use mathlib.Core.Bool.{Bool, true, false}
+use mathlib.Core.Bool.{Bool}
 use mathlib.Core.List.{List}
 use Prim.Native.Nat.{ℕ, suc, _+_, _-_, _<_}
-use native.Mathlib.Nat.{add-zero, mod-eq-of-lt}
+use native.Mathlib.Nat.{mod-eq-of-lt}
 use native.Mathlib.Omega.{arith}
 use lib.Dec.{eqb}
 use lib.ListN.{getD}
 use Rattle.scan.specs.Marks.{byteOf, leadOf, markCrc}
 use Rattle.scan.specs.DataMarks.{markByte, isDeleted}
-use Rattle.scan.specs.Streams.{MarkAt, idWidth, crcFrom}
+use Rattle.scan.specs.Streams.{idWidth, crcFrom}
 use Rattle.scan.specs.declared.DataMark.{DataMark}
 use Rattle.scan.specs.declared.DataMark.the-variants.{Fb, F8}
+use Rattle.scan.proofs.Marks.{mark-last-byte}
 use Rattle.fields.specs.Rings.{cellsOf}
 use Rattle.fields.specs.Rounds.{FirstMark}
 use Rattle.viewer.specs.Plain.{SectorAt}
 use Rattle.hosts.proofs.DataFields.{sumAfter}
 use Rattle.hosts.proofs.FirstMarks.{stands-first, field-register}
 use Rattle.hosts.proofs.ReadThrough.{FieldIn}
-
--- the byte of a mark is in its last cell
-mark-cell : (mfm : Bool) (cells : ℕ → ℕ) (a b : ℕ) → MarkAt mfm cells a b → byteOf (cells (a + leadOf mfm)) ≡ b
-unfolding MarkAt leadOf
-mark-cell false cells a b (low, e) = ap (λ (x : ℕ). byteOf (cells x)) (add-zero a) ∙ ap byteOf e ∙ omega arith
-mark-cell true cells a b (low, x, y, z, e) = ap byteOf e ∙ mod-eq-of-lt low
 
 deleted-byte : (mark : DataMark) → isDeleted mark ≡ eqb (markByte mark) 0xF8
 unfolding isDeleted markByte
@@ -48,7 +43,7 @@ module _ (mfm : Bool) (row : List ℕ) (track number p from to : ℕ) (sector : 
       ∙ ap (λ (b : ℕ). eqb b 0xF8)
       (sym
       (ap byteOf (sym (in-row (from - 1) (omega (arith, sector .ends))) ∙ ap (cellsOf row) e)
-      ∙ mark-cell mfm (cellsOf row) (sector .at) (markByte (sector .mark)) (first .within .stands)))
+      ∙ mark-last-byte mfm (cellsOf row) (sector .at) (markByte (sector .mark)) (first .within .stands)))
 
   -- a stream that is the ring from the ID's last cell on
   module _ (cells : ℕ → ℕ) (agree : (j : ℕ) → cells j ≡ cellsOf row (p + idWidth mfm + j)) where

@@ -1,8 +1,8 @@
 -- Request b over a track with two records, from `demand-2` alone. Assumes nothing.
 use mathlib.Core.Path.{_≡_, refl, sym, ap, _∙_, subst}
-use mathlib.Core.Bool.{Bool, true, false, true≢false}
+use mathlib.Core.Bool.{true, false}
 use mathlib.Core.Logic.{_⊎_, inl, inr}
-use Prim.Native.Nat.{ℕ, zero, suc, _+_, _%_, _≤_}
+use Prim.Native.Nat.{ℕ, _+_, _%_, _≤_}
 use native.Mathlib.Omega.{arith}
 use lib.ListN.{length}
 use Rattle.common.specs.Bits.{bitOf}
@@ -12,23 +12,21 @@ use Rattle.scan.specs.declared.DataMark.the-variants.{F8}
 use Rattle.command.specs.declared.Chip.{Chip}
 use Rattle.registers.specs.declared.Lines.{Lines}
 use Rattle.wd.specs.declared.Machine.{Machine}
-use Rattle.wd.specs.declared.Read.{Read}
 use Rattle.wd.specs.Machines.{freshMachine, powerOn}
-use Rattle.wd.specs.Reads.{readRegister}
 use Rattle.hosts.specs.Hosts.{Host, Desk}
 use Rattle.hosts.specs.Scenes.{Scene}
 use Rattle.hosts.proofs.LowRows.{LowRow, allLow, low-by}
 use Rattle.multiple.specs.Multiple.{endOf, RecordFrom, GoodCrc, passedBy, GoodRecords, none, more, SearchesFrom, LastSearch, ShowsBroken, AtBroken, AtMissing, MultipleEnds, StandsAtBroken}
 use Rattle.multiple.proofs.OneRecord.{same-marks, one-end, good-both, no-other}
 use Rattle.witnesses.proofs.Multiples.{two-records, scene, first, second, mark-second, good-first, bad-second, one-good, over-first, over-second}
-use Rattle.uses.specs.Uses.{Use, throughout, noCommand, headLoaded, passed, madeThen, hostOf}
+use Rattle.uses.specs.Uses.{Use, throughout, noCommand, headLoaded, passed, hostOf}
 use Rattle.uses.specs.Multiples.{MultipleReadEnds, MultipleAsked}
-use Rattle.uses.proofs.Calls.{a-read}
-use Rattle.uses.specs.Courses.{deletedBit, notFoundBit, crcErrorBit, busyBit, Shows, Showed, Accepted, since, Course, took, silent, sceneOf, courseThen, courseScene, MultipleRead}
-use Rattle.uses.proofs.Heads.{HeadOn, use-on, made-on}
+use Rattle.uses.specs.Courses.{deletedBit, notFoundBit, crcErrorBit, busyBit, Shows, Accepted, since, Course, took, silent, sceneOf, courseThen, courseScene, MultipleRead}
+use Rattle.uses.proofs.Heads.{HeadOn, use-on}
 use Rattle.demands.proofs.Demand2.{demand-2}
 use Rattle.applied.specs.Broken.{MultipleOver, AtSecond, Broken}
 use Rattle.applied.proofs.Commands.{read-98}
+use Rattle.applied.proofs.ReadSectors.{lit-by, begins-at-once, same-search, shows-there, showed-by}
 
 -- ---- the records that such a command passes
 
@@ -42,22 +40,12 @@ module _ (chip : Chip) (l : Lines) (h : Host) (lit : HeadOn h) (n : ℕ) where
     sr : endOf s n .regs .sr ≡ 2
     shows : ShowsBroken s n F8
 
-  -- the search begins at once
-  at-once : (t : ℕ) → SearchesFrom s t → t ≡ 0
-  unfolding bitOf
-  at-once zero from = refl
-  at-once (suc t) from = absurd (true≢false (sym (lit 0) ∙ from .off 0 (omega arith) (omega arith)))
-
-  -- what is so of one search is so of one with the same SR and byte time
-  moved : (P : ℕ → ℕ → Type 0) {sector t sector′ t′ : ℕ} → (sector ≡ sector′) × (t ≡ t′) → P sector′ t′ → P sector t
-  moved P {t = t} {sector′} (is, from) x = subst (λ (y : ℕ). P y t) (sym is) (subst (P sector′) (sym from) x)
-
   -- after the first record comes the second search, and no third
   one-more : {sector t next u : ℕ} → GoodRecords s sector t next u → (sector ≡ 2) × (t ≡ 138) → (next ≡ 2) × (u ≡ 138)
   one-more none here = here
   one-more (more r good rest) here =
       absurd
-      (moved (λ (sector t : ℕ). (r : RecordFrom s sector t) → GoodCrc r → ⊥) here
+      (same-search (λ (sector t : ℕ). (r : RecordFrom s sector t) → GoodCrc r → ⊥) here
       (λ r good. bad-second chip l h (good-both r (second chip l h) good)) r good)
 
   -- the first search, or the second
@@ -70,38 +58,38 @@ module _ (chip : Chip) (l : Lines) (h : Host) (lit : HeadOn h) (n : ℕ) where
       inr
       (one-more rest (
         ap (λ (sector : ℕ). (sector + 1) % 256) (here .0),
-        moved (λ (sector t : ℕ). (r : RecordFrom s sector t) → passedBy r ≡ 138) here
+        same-search (λ (sector t : ℕ). (r : RecordFrom s sector t) → passedBy r ≡ 138) here
             (λ r. one-end r (first chip l h) ∙ over-first chip l h) r,
       ))
 
   module _ (p : LastSearch s n) where
     -- the search that has ended the command is one of the two
     searched : OneOrTwo (endOf s n .regs .sr) (p .since)
-    unfolding powerOn lengthWithin freshMachine
-    searched = searches (p .good) (refl, at-once (p .begun) (p .begins))
+    unfolding bitOf powerOn lengthWithin freshMachine
+    searched = searches (p .good) (refl, begins-at-once s refl lit (p .begun) (p .begins))
 
     broken-at : AtBroken s n p → OneOrTwo (endOf s n .regs .sr) (p .since) → Told
     broken-at b (inl here) =
         absurd
-        (moved (λ (sector t : ℕ). (r : RecordFrom s sector t) → (GoodCrc r → ⊥) → ⊥) here
+        (same-search (λ (sector t : ℕ). (r : RecordFrom s sector t) → (GoodCrc r → ⊥) → ⊥) here
         (λ r bad. bad (good-both (first chip l h) r (good-first chip l h))) (b .broken) (b .bad))
     broken-at b (inr here) =
         record {
           ends =
               b .ends
-              ∙ moved (λ (sector t : ℕ). (r : RecordFrom s sector t) → passedBy r ≡ 276) here
+              ∙ same-search (λ (sector t : ℕ). (r : RecordFrom s sector t) → passedBy r ≡ 276) here
               (λ r. one-end r (second chip l h) ∙ over-second chip l h) (b .broken);
           intrq = p .raised;
           sr = here .0;
           shows =
-              moved (λ (sector t : ℕ). (r : RecordFrom s sector t) → ShowsBroken s n (r .mark) → ShowsBroken s n F8) here
+              same-search (λ (sector t : ℕ). (r : RecordFrom s sector t) → ShowsBroken s n (r .mark) → ShowsBroken s n F8) here
               (λ r. subst (ShowsBroken s n) (same-marks r (second chip l h) .1 ∙ mark-second chip l h)) (b .broken) (b .shows);
         }
 
     -- both are there
     missing-at : AtMissing s n p → OneOrTwo (endOf s n .regs .sr) (p .since) → ⊥
-    missing-at b (inl here) = no-other (b .no-record) (moved (RecordFrom s) here (first chip l h))
-    missing-at b (inr here) = no-other (b .no-record) (moved (RecordFrom s) here (second chip l h))
+    missing-at b (inl here) = no-other (b .no-record) (same-search (RecordFrom s) here (first chip l h))
+    missing-at b (inr here) = no-other (b .no-record) (same-search (RecordFrom s) here (second chip l h))
 
     told : AtBroken s n p ⊎ AtMissing s n p → Told
     told (inl b) = broken-at b searched
@@ -162,7 +150,7 @@ module _ (chip : Chip) (c : Accepted) (course : Course c) (is : MultipleOver chi
   host = courseThen course silent
 
   lit : HeadOn host
-  lit = use-on (course .calls) (madeThen (course .last) silent) head (made-on (course .last) silent head-last (λ n. refl))
+  lit = lit-by course head head-last
 
   abbrev there-scene : courseScene course ≡ scene chip (c .lines) host
   there-scene = the-scene chip c is host
@@ -179,27 +167,12 @@ module _ (chip : Chip) (c : Accepted) (course : Course c) (is : MultipleOver chi
       let (p, how) = subst (λ (s : Scene). MultipleEnds s (took course)) there-scene (says .ends) in
       told chip (c .lines) host lit (took course) p how
 
-  -- what the status shows there it shows after the course
-  shown : (bit : ℕ) (on : Bool)
-      → ((l : Lines) → bitOf (readRegister (endOf (scene chip (c .lines) host) (took course)) l 0 .byte) bit ≡ on)
-      → Shows (course .after) bit on
-  shown bit on told l r call =
-      ap (λ (q : Read). bitOf (q .byte) bit) (call .told)
-      ∙ ap (λ (m : Machine). bitOf (readRegister m l 0 .byte) bit) (sym there)
-      ∙ told l
-
-  -- a host that has read the status knows by it alone
-  showed : (bit : ℕ) (on : Bool) → Shows (course .after) bit on → Showed (course .after) bit on
-  showed bit on shows =
-      let call = a-read (course .after .machine) (c .lines) 0 in
-      (c .lines, readRegister (course .after .machine) (c .lines) 0, call, shows (c .lines) _ call)
-
   tells-broken : Told chip (c .lines) host lit (took course)
   tells-broken =
       let (p, broken) =
       subst (λ (s : Scene). StandsAtBroken s (took course)) there-scene
-      (says .broken (showed crcErrorBit true (shown crcErrorBit true (tells .shows .crc)))
-      (showed notFoundBit false (shown notFoundBit false (tells .shows .found)))) in
+      (says .broken (showed-by (course .after) (c .lines) crcErrorBit true (shows-there (course .after) there crcErrorBit true (tells .shows .crc)))
+      (showed-by (course .after) (c .lines) notFoundBit false (shows-there (course .after) there notFoundBit false (tells .shows .found)))) in
       told chip (c .lines) host lit (took course) p (inl broken)
 
   at-second : AtSecond c course
@@ -209,9 +182,9 @@ module _ (chip : Chip) (c : Accepted) (course : Course c) (is : MultipleOver chi
         ends = tells-broken .ends;
         intrq = ap (λ (m : Machine). m .wires .intrq) (sym there) ∙ tells-broken .intrq;
         sr = ap (λ (m : Machine). m .regs .sr) (sym there) ∙ tells-broken .sr;
-        crc = shown crcErrorBit true (tells-broken .shows .crc);
-        found = shown notFoundBit false (tells-broken .shows .found);
-        deleted = shown deletedBit true (tells-broken .shows .deleted);
+        crc = shows-there (course .after) there crcErrorBit true (tells-broken .shows .crc);
+        found = shows-there (course .after) there notFoundBit false (tells-broken .shows .found);
+        deleted = shows-there (course .after) there deletedBit true (tells-broken .shows .deleted);
       }
 
 pub broken : Broken

@@ -8,6 +8,7 @@ pub mod Sector
 pub mod NotFound
 pub mod OneId
 pub mod Window
+pub mod ReadSectors
 pub mod Broken
 pub mod AllCalls
 pub mod LeavesDr

@@ -1,6 +1,6 @@
 -- Cases: of a choice, of a test of two parts, and those that cannot be. Assumes nothing.
 use mathlib.Core.Path.{_≡_, refl, sym, _∙_}
-use mathlib.Core.Bool.{Bool, true, false, cond, _&&_, _||_}
+use mathlib.Core.Bool.{Bool, true, false, cond, not, _&&_, _||_}
 use Prim.Native.Nat.{ℕ}
 use native.Mathlib.Omega.{arith}
 
@@ -16,6 +16,10 @@ never z = absurd (omega arith)
 pub both : (a b : Bool) → (a && b) ≡ true → (a ≡ true) × (b ≡ true)
 both true b e = (refl, e)
 both false b e = never (cc)
+
+pub not-on : (b : Bool) → not b ≡ true → b ≡ false
+not-on true e = never (cc)
+not-on false e = refl
 
 pub neither : (a b : Bool) → (a || b) ≡ false → (a ≡ false) × (b ≡ false)
 neither true b e = never (cc)

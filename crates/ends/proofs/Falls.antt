@@ -11,6 +11,7 @@ use Rattle.common.proofs.Cases.{by-cond, never}
 use Rattle.crc.specs.Crc.{preset}
 use Rattle.crc.proofs.Laws.{byte-below}
 use Rattle.scan.specs.DataMarks.{markByte}
+use Rattle.scan.proofs.DataMarks.{mark-byte}
 use Rattle.command.specs.Bits.{markWritten}
 use Rattle.command.specs.Commands.{jobOf}
 use Rattle.command.specs.Times.{stepTimeOf}
@@ -31,7 +32,7 @@ use Rattle.act.proofs.Acts.{StopsIn, Passes, Writes, Acts, Enters, enters, turn
 use Rattle.registers.specs.Rings.{ringNext}
 use Rattle.effects.specs.Effects.{stepped, effectOf}
 use Rattle.effects.proofs.Apart.{regsAfter}
-use Rattle.hosts.proofs.DataFields.{mark-byte, mark-word}
+use Rattle.hosts.proofs.DataFields.{mark-word}
 use Rattle.ends.specs.Ends.{apart}
 use Rattle.ends.proofs.Left.{Next, to-start, onward, next-place, toFifth, verifyLeft, begunLeft, down, toEnd, leftOf, Plain, verifies, reads-track, writes-track, Counted, seeks, fifth-most, fifth-some, fifth-nearer}
 use Rattle.ends.proofs.Moments.{Moment, ringAt, mfmAt, orderAt, seenAt, regsAt, left, leftAfter, Aims, Low, Word, Good, writes, passes, ends, more-left, size, some, index, taken-byte}

@@ -6,7 +6,7 @@ use Prim.Native.Nat.{ℕ, _≤_}
 use native.Mathlib.Omega.{arith}
 use lib.Dec.{leb, eqb}
 use borrow.Author.Tests.{eqb-false, leb-true}
-use Rattle.common.proofs.Cases.{by-cond, never, both}
+use Rattle.common.proofs.Cases.{by-cond, never, both, not-on}
 use Rattle.activity.specs.Limits.{busyIn}
 use Rattle.registers.specs.declared.Lines.{Lines}
 use Rattle.registers.specs.declared.Regs.{Regs}
@@ -58,11 +58,7 @@ call-steady : (m : Machine) (c : Call) (cs : List Call)
 unfolding calledOf commands leavesDr
 call-steady m (loads l number b byte) cs quiet leaves =
     let parts = both (not (eqb number 3)) (leavesDr cs) leaves in
-    (load-steady m l number b (by (eqb number 3) (parts .0)) quiet, parts .1)
-  where
-    by : (x : Bool) → not x ≡ true → x ≡ false
-    by true e = never (cc)
-    by false e = refl
+    (load-steady m l number b (not-on (eqb number 3) (parts .0)) quiet, parts .1)
 call-steady m (reads l number) cs quiet leaves = (ap (λ (r : Regs). r .dr) (read-regs m l number), leaves)
 
 pub calls-steady :

@@ -117,7 +117,7 @@ module _ (s : Session) (p : ℕ) (a : FewerPremises s p) where
         type2 = status.type-two meets;
         protected = status.unprotected meets;
         missing = through.no-missing meets;
-        crc = status.no-crc meets;
+        crc = through.no-crc meets;
         lost = status.late-only meets;
         deleted = status.told-mark meets;
         status = λ l. status.told meets l;

@@ -9,11 +9,9 @@ use Rattle.scan.specs.Marks.{sync, leadOf}
 use Rattle.scan.specs.Streams.{MarkAt, IdAt, soughtAt}
 use Rattle.scan.specs.DataMarks.{markByte}
 use Rattle.scan.specs.declared.DataMark.{DataMark}
-use Rattle.scan.specs.declared.DataMark.the-variants.{Fb, F8}
 use Rattle.scan.specs.declared.Sought.the-variants.{Met}
-use Rattle.scan.proofs.DataMarks.{data-marks}
+use Rattle.scan.proofs.DataMarks.{mark-byte, data-marks}
 use Rattle.writing.specs.Writing.{lastKept, lastZero, markPlace, markCell}
-use Rattle.hosts.proofs.DataFields.{mark-byte}
 use Rattle.exact.specs.Demand2.{NoMark}
 use Rattle.exact.proofs.SectorField.{Field, cellOf, fieldPut, fieldReach, numbers, kept, zeros, leads, marked, put, put-plain}
 
@@ -155,17 +153,12 @@ no-id f cells v a inside id =
     let one = one-mark f cells v a 0xFE (omega arith) inside (id .mark) in
     omega (arith, one .1, mark-byte (f .data-mark) .1)
 
-some-byte : (mark : DataMark) → 1 ≤ markByte mark
-unfolding markByte
-some-byte Fb = omega arith
-some-byte F8 = omega arith
-
 module _ (f : Field) (cells : ℕ → ℕ) (v : Behind f cells) where
   -- no data mark ends before the one that was written
   pub none-before : (j : ℕ) → suc j < markPlace (f .mfm) → (mark : DataMark) → soughtAt (f .mfm) cells j ≡ Met mark → ⊥
   none-before j h mark e =
       let (a, p, m) = data-marks (f .mfm) cells j mark .0 e in
-      let one = one-mark f cells v a (markByte mark) (some-byte mark) (omega arith) m in
+      let one = one-mark f cells v a (markByte mark) (omega (arith, mark-byte mark .0)) (omega arith) m in
       omega (arith, one .0, numbers (f .mfm) .mark-last)
 
   there : (mfm : Bool) → f .mfm ≡ mfm → MarkAt mfm cells (lastZero (f .mfm)) (markByte (f .data-mark))

@@ -22,7 +22,7 @@ use Rattle.hosts.proofs.Searching.{reads-two}
 use Rattle.hosts.proofs.RingIds.{same-side-suits, IdOnRing}
 use Rattle.hosts.proofs.Working.{TakenUp}
 use Rattle.hosts.proofs.Found.{Lost, searched, lost-none, foundPlace, foundSize, found-on, found-cells}
-use Rattle.hosts.proofs.ReadThrough.{FieldIn, EndedRead, working, heads, FoundId, cellsOn, Meets}
+use Rattle.hosts.proofs.ReadThrough.{FieldIn, EndedSingle, working, heads, FoundId, cellsOn, Meets}
 use Rattle.exact.specs.Demand2.{Session, begun, asked, writeScene, readScene, Commands, FewerPremises, clearCells}
 use Rattle.exact.proofs.SectorField.{Field}
 use Rattle.exact.proofs.OneMark.{Behind}
@@ -86,7 +86,7 @@ module _ (s : Session) (p : ℕ) (a : FewerPremises s p) where
         stays = simp (k .ready-then);
       }
 
-  abbrev pub reading : EndedRead (readScene s) (s .read)
+  abbrev pub reading : EndedSingle (readScene s) (s .read)
   reading = record { given = given; alone = k .alone; ends = k .ends-then; single = k .same-m ∙ k .single }
 
   -- ---- it goes by the same ID

@@ -8,8 +8,9 @@ use borrow.Author.Tests.{lt-ltb, le-ltb, le-leb, lt-leb, eq-eqb, ne-eqb, ltb-tru
 use Rattle.common.proofs.Cases.{by-cond}
 use Rattle.scan.specs.Marks.{sync, leadOf, markCrc}
 use Rattle.writing.specs.Writing.{lastKept, lastZero, markPlace, markCell, preambleCell}
-use Rattle.hosts.proofs.DataFields.{sumAfter, sum-below, mark-byte, mark-word}
+use Rattle.hosts.proofs.DataFields.{sumAfter, sum-below, mark-word}
 use Rattle.scan.specs.DataMarks.{markByte}
+use Rattle.scan.proofs.DataMarks.{mark-byte}
 use Rattle.scan.specs.declared.DataMark.{DataMark}
 
 -- a field: its mark, its length, its bytes, and what stood in its place before it, from the ID's last cell on

@@ -1,24 +1,16 @@
--- The numbers of a data field: its mark's byte, and the register over its bytes. Assumes nothing.
+-- The register over the bytes of a data field. Assumes nothing.
 use mathlib.Core.Path.{_≡_, refl}
 use mathlib.Core.Bool.{Bool, true, false}
-use Prim.Native.Nat.{ℕ, zero, suc, _≤_, _<_}
+use Prim.Native.Nat.{ℕ, zero, suc, _<_}
 use native.Mathlib.Omega.{arith}
 use Rattle.crc.specs.Crc.{preset, crcByte}
 use Rattle.crc.proofs.Laws.{byte-below, over-below}
 use Rattle.scan.specs.Marks.{markBytes, markCrc}
-use Rattle.scan.specs.DataMarks.{markByte}
-use Rattle.scan.specs.declared.DataMark.{DataMark}
-use Rattle.scan.specs.declared.DataMark.the-variants.{Fb, F8}
 
 -- the register after n of the bytes
 unfoldable pub sumAfter : ℕ → (ℕ → ℕ) → ℕ → ℕ
 sumAfter crc bytes zero = crc
 sumAfter crc bytes (suc n) = crcByte (sumAfter crc bytes n) (bytes n)
-
-pub mark-byte : (mark : DataMark) → (0xF8 ≤ markByte mark) × (markByte mark < 0xFE)
-unfolding markByte
-mark-byte Fb = (omega arith, omega arith)
-mark-byte F8 = (omega arith, omega arith)
 
 pub mark-word : (mfm : Bool) (b : ℕ) → b < 256 → markCrc mfm b < 65536
 unfolding markCrc markBytes

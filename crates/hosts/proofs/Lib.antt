@@ -21,6 +21,7 @@ pub mod Lengths
 pub mod DrByte
 pub mod Accepted
 pub mod Intrq
+pub mod Unready
 pub mod DataFields
 pub mod Collected
 pub mod ReadActs

@@ -17,6 +17,7 @@ use Rattle.activity.specs.declared.Activity.the-variants.{Idle}
 use Rattle.activity.specs.declared.Deed.{Deed}
 use Rattle.activity.specs.declared.Deed.the-variants.{Nothing, NotFound}
 use Rattle.registers.specs.declared.Ring.{Ring}
+use Rattle.registers.specs.declared.Flags.{Flags}
 use Rattle.registers.specs.Rings.{ringNext}
 use Rattle.effects.proofs.Apart.{regsAfter, flagsAfter}
 use Rattle.reachable.specs.ByteTimes.{turnsOn}
@@ -55,6 +56,12 @@ rests s act next acts = record { deed = Nothing; acts = acts; keeps = nothing-ke
 abbrev pub PassesTo : View → Outside → Activity → Type 0
 PassesTo v o next = PhasePasses (seenIn v o) (actIn v o) next
 
+-- ---- deeds
+
+-- a deed that leaves a status bit
+abbrev pub Leaves : (Flags → Bool) → Deed → Type 0
+Leaves bit deed = (f : Flags) (drq : Bool) → bit (flagsAfter f drq deed) ≡ bit f
+
 -- ---- a command that has come to a view
 
 module _ {Rows : List ℕ → Type 0} (c : Course Rows) (t : ℕ) (v : View) where
@@ -82,6 +89,11 @@ module _ {Rows : List ℕ → Type 0} (c : Course Rows) (t : ℕ) (v : View) whe
           deed-view (c .host) (c .desk) (t + n) calm comes-busy
           ∙ ap (λ (w : View). actIn w (besideAt c (t + n)) .deed) (here .view)
 
+      pub flags-next :
+          deskAt c (t + suc n) .machine .flags
+          ≡ flagsAfter (deskAt c (t + n) .machine .flags) (besideAt c (t + n) .drq) (deedAt (c .host) (c .desk) (t + n))
+      flags-next = rw (add-suc t n) (next-flags (c .host) (c .desk) (t + n) (calm .quiet))
+
       module _ {next : Activity} {cell : ℕ} {deed : Deed}
           (acts : actIn (comes v n row missing a) (besideAt c (t + n)) ≡ write cell next deed) where
         pub deed-is : deedAt (c .host) (c .desk) (t + n) ≡ deed
@@ -90,10 +102,7 @@ module _ {Rows : List ℕ → Type 0} (c : Course Rows) (t : ℕ) (v : View) whe
         pub flags-on :
             deskAt c (t + suc n) .machine .flags
             ≡ flagsAfter (deskAt c (t + n) .machine .flags) (besideAt c (t + n) .drq) deed
-        flags-on =
-            rw (add-suc t n)
-            (next-flags (c .host) (c .desk) (t + n) (calm .quiet)
-            ∙ ap (flagsAfter (deskAt c (t + n) .machine .flags) (besideAt c (t + n) .drq)) deed-is)
+        flags-on = flags-next ∙ ap (flagsAfter (deskAt c (t + n) .machine .flags) (besideAt c (t + n) .drq)) deed-is
 
         -- one byte time more
         pub acts-on :
@@ -182,6 +191,20 @@ module _ {Rows : List ℕ → Type 0} (c : Course Rows) (t : ℕ) (v : View) whe
         lasts-from j doing n (λ k l. busy k (omega arith)) (λ k l. passes k (omega arith)) begins in
         rw (add-suc j n)
         (passes-on here (busy n (omega arith)) (passes n (omega arith) (besideAt c (t + (j + n))) refl))
+
+    -- a status bit that each of its deeds leaves
+    pub bit-stays :
+        (bit : Flags → Bool) {missing : Bool} (j : ℕ) (doing : ℕ → Activity) (n : ℕ)
+        → ((k : ℕ) → k < n → Stands (j + k) missing (doing k))
+        → ((k : ℕ) → k < n → busyIn (doing k) ≡ true)
+        → ((k : ℕ) → k < n → Leaves bit (deedAt (c .host) (c .desk) (t + (j + k))))
+        → bit (deskAt c (t + (j + n)) .machine .flags) ≡ bit (deskAt c (t + j) .machine .flags)
+    bit-stays bit j doing zero there busy leaves = ap (λ (k : ℕ). bit (deskAt c (t + k) .machine .flags)) (add-zero j)
+    bit-stays bit j doing (suc n) there busy leaves =
+        rw (add-suc j n)
+        (ap bit (flags-next (there n (omega arith)) (busy n (omega arith)) rows)
+        ∙ leaves n (omega arith) _ _
+        ∙ bit-stays bit j doing n (λ k l. there k (omega arith)) (λ k l. busy k (omega arith)) (λ k l. leaves k (omega arith)))
 
     -- and one from the view itself on
     pub lasts :

@@ -1,6 +1,6 @@
 -- The deeds of a single Read Sector, and what they leave in its status bits. Assumes nothing.
 use mathlib.Core.Path.{_≡_, refl}
-use mathlib.Core.Bool.{Bool, true, false, not, _||_, or-false}
+use mathlib.Core.Bool.{Bool, true, false, not, _||_}
 use mathlib.Core.Logic.{_⊎_, inl, inr}
 use Prim.Native.Nat.{ℕ, _+_}
 use native.Mathlib.Omega.{arith}
@@ -28,13 +28,6 @@ unfolding hands
 silent-hands deed nothing = refl
 silent-hands deed (matched bad) = refl
 silent-hands deed lost = refl
-
--- a good field leaves bit 3
-pub crc-kept : (f : Flags) (drq : Bool) (deed : Deed) → Moves deed → flagsAfter f drq deed .crc ≡ f .crc
-unfolding flagsAfter effectOf delivered addressNamed recordOver recordRead cellTaken stepped halted
-crc-kept f drq deed waits = refl
-crc-kept f drq deed delivers = refl
-crc-kept f drq deed records = or-false (f .crc)
 
 -- Lost Data comes with a byte that finds DRQ on
 pub or-true-of : (a b : Bool) → (a || b) ≡ true → (a ≡ true) ⊎ (b ≡ true)

@@ -3,7 +3,6 @@ use mathlib.Core.Path.{_≡_, refl, sym, ap, _∙_}
 use mathlib.Core.Bool.{Bool, true, false, true≢false, not}
 use mathlib.Core.Logic.{_⊎_, inl, inr}
 use Prim.Native.Nat.{ℕ, zero, suc, _+_, _≤_, _<_}
-use native.Mathlib.Nat.{add-suc}
 use native.Mathlib.Decide.{decLt}
 use native.Mathlib.Omega.{arith}
 use Rattle.scan.specs.DataMarks.{isDeleted}
@@ -21,9 +20,8 @@ use Rattle.hosts.specs.Bytes.{deedAt, hands, LateAt}
 use Rattle.hosts.proofs.ByteTimes.{next-flags, kind-later}
 use Rattle.hosts.proofs.Accepted.{flagsGiven, given-flags}
 use Rattle.hosts.proofs.Silent.{Silent}
-use Rattle.hosts.proofs.Found.{found-crc}
-use Rattle.hosts.proofs.ReadDeeds.{Moves, crc-kept, lost-by, status-is}
-use Rattle.hosts.proofs.ReadThrough.{Meets, size, start, from, over, no-missing, recorded, moves, silent, calm}
+use Rattle.hosts.proofs.ReadDeeds.{Moves, lost-by, status-is}
+use Rattle.hosts.proofs.ReadThrough.{Meets, size, start, from, over, no-missing, no-crc, recorded, moves, silent, calm}
 use Rattle.effects.specs.Effects.{effectOf, delivered, addressNamed, recordOver, recordRead, cellTaken, stepped, halted}
 
 module _ {s : Scene} {n : ℕ} (r : Meets s n) where
@@ -55,20 +53,6 @@ module _ {s : Scene} {n : ℕ} (r : Meets s n) where
   begun-flags : loaded s .machine .flags ≡ flagsGiven (heldBy ReadSector (s .lines))
   begun-flags = given-flags s ReadSector (r .reads .given .decodes) (r .reads .given .works) (r .reads .given .accepted)
 
-  -- neither a CRC error: from the ID on bit 3 stays off
-  clean : (j : ℕ) → first + j ≤ n → flagsAt (first + j) .crc ≡ false
-  clean zero l =
-      let e : first ≡ first + 0 = omega arith in
-      ap (λ (k : ℕ). flagsAt k .crc) (sym e) ∙ found-crc (r .found)
-  clean (suc j) l =
-      rw (add-suc first j)
-      (ap (λ (f : Flags). f .crc) (steps (first + j) (omega arith))
-      ∙ crc-kept _ _ _ (moves r (first + j) (omega arith) (omega arith))
-      ∙ clean j (omega arith))
-
-  pub no-crc : at h d n .machine .flags .crc ≡ false
-  no-crc = rw (over r) at (clean (r .place + size r + 2) (omega (arith, over r)))
-
   -- Lost Data has a cause
   lost-cause : (i : ℕ) → i ≤ n → flagsAt i .lost ≡ true → (k : ℕ) × (k < i) × LateAt h d k
   unfolding at
@@ -95,7 +79,7 @@ module _ {s : Scene} {n : ℕ} (r : Meets s n) where
   pub late-only : at h d n .machine .flags .lost ≡ true → (k : ℕ) × (k < n) × LateAt h d k
   late-only = lost-cause n (omega arith)
 
-  -- "bit 5 on if F8, else off"
+  -- "bit 5 on if F8, else off", by what the mark counts as
   pub told-mark : at h d n .machine .flags .deleted ≡ isDeleted (r .mark)
   unfolding flagsAfter effectOf delivered addressNamed recordOver recordRead cellTaken stepped halted
   told-mark =
@@ -121,4 +105,4 @@ module _ {s : Scene} {n : ℕ} (r : Meets s n) where
       + bitFor (at h d n .machine .wires .drq) 0x02
   told l =
       status-is (at h d n .machine) l (isDeleted (r .mark)) (r .reads .ends .over) type-two unprotected (no-missing r)
-      no-crc told-mark
+      (no-crc r) told-mark

@@ -1,6 +1,6 @@
 -- A single Read Sector that has found its ID and meets a data field with a good CRC, from its acceptance to its end: what each
 -- byte time does, and the bytes that it hands over, each as its cell passes. Assumes nothing.
-use mathlib.Core.Path.{_≡_, sym, ap, ap₂, _∙_, subst}
+use mathlib.Core.Path.{_≡_, refl, sym, ap, ap₂, _∙_, subst}
 use mathlib.Core.Bool.{Bool, false, not}
 use Prim.Native.Nat.{ℕ, suc, _+_, _-_, _%_, _≤_, _<_}
 use native.Mathlib.Decide.{decLt, ℕ-discrete}
@@ -18,7 +18,7 @@ use Rattle.activity.specs.declared.Deed.{Deed}
 use Rattle.activity.specs.declared.Deed.the-variants.{Nothing, Deliver, Record}
 use Rattle.registers.specs.declared.Ring.{Ring}
 use Rattle.registers.specs.declared.Regs.{Regs}
-use Rattle.effects.proofs.Apart.{regsAfter}
+use Rattle.effects.proofs.Apart.{regsAfter, flagsAfter}
 use Rattle.reachable.specs.ByteTimes.{turnsOn}
 use Rattle.hosts.specs.Hosts.{Host, Desk, servedAt, at, AloneUntil, EndsAt}
 use Rattle.hosts.specs.Scenes.{Scene, loaded}
@@ -30,11 +30,11 @@ use Rattle.hosts.proofs.Courses.{AnyRow, ends-once, ended-calm}
 use Rattle.hosts.proofs.Passing.{streamFrom}
 use Rattle.hosts.proofs.Silent.{Silent}
 use Rattle.hosts.proofs.ReadActs.{single-over}
-use Rattle.hosts.proofs.Records.{byteAfter, registerAfter, Marked, closing, data-ring, hands-deed, first-deed, last-deed}
-use Rattle.hosts.proofs.Windows.{FirstMarkIn, cellsAfter, Opened, awaits-deed}
+use Rattle.hosts.proofs.Records.{byteAfter, registerAfter, Marked, closing, data-ring, hands-deed, first-deed, last-deed, record-crc}
+use Rattle.hosts.proofs.Windows.{FirstMarkIn, cellsAfter, Opened, awaits-deed, window-bit}
 use Rattle.hosts.proofs.Searching.{reads-two}
 use Rattle.hosts.proofs.Working.{TakenUp, OverAt, Working, ended-working, courseOf, Heads, heads-by, beginning}
-use Rattle.hosts.proofs.Found.{Found, foundTime, foundPlace, foundSize, found-place, found-silent}
+use Rattle.hosts.proofs.Found.{Found, foundTime, foundPlace, foundSize, found-place, found-silent, found-crc}
 use Rattle.hosts.proofs.ReadEnds.{found-opens, found-marked, marked-over}
 use Rattle.hosts.proofs.Collected.{listed, listed-same, Stretch, collects}
 use Rattle.hosts.proofs.ReadDeeds.{Moves, waits, delivers, records, silent-hands}
@@ -51,13 +51,13 @@ pub record FieldIn (mfm : Bool) (cells : ℕ → ℕ) (size : ℕ) (mark : DataM
 -- ---- the command
 
 -- a single Read Sector that ends by itself in byte time n
-pub record EndedRead (s : Scene) (n : ℕ) : Type 0 where
+pub record EndedSingle (s : Scene) (n : ℕ) : Type 0 where
   pub given : TakenUp s ReadSector
   pub alone : AloneUntil (s .host) (loaded s) n
   pub ends : EndsAt (s .host) (loaded s) n
   pub single : isMultiple (s .byte) ≡ false
 
-module _ {s : Scene} {n : ℕ} (r : EndedRead s n) where
+module _ {s : Scene} {n : ℕ} (r : EndedSingle s n) where
   abbrev pub working : Working AnyRow s ReadSector
   working = ended-working (r .given) n (r .alone) (r .ends)
 
@@ -74,7 +74,7 @@ module _ {s : Scene} {n : ℕ} (r : EndedRead s n) where
 
 -- and the data field that it meets then
 pub record Meets (s : Scene) (n : ℕ) : Type 0 where
-  pub reads : EndedRead s n
+  pub reads : EndedSingle s n
   pub found : FoundId reads
   pub mark : DataMark
   pub place : ℕ
@@ -160,6 +160,14 @@ module _ {s : Scene} {n : ℕ} (r : Meets s n) where
   no-missing =
       let e : begun + (m + (size + 2)) ≡ n = omega (arith, over, u-is) in
       rw e at (ended .told)
+
+  -- nor CRC error: a good match has cleared bit 3, and a good record leaves it off
+  pub no-crc : at h d n .machine .flags .crc ≡ false
+  unfolding flagsAfter effectOf delivered addressNamed recordOver recordRead cellTaken stepped halted
+  no-crc =
+      let e : begun + (m + (size + 2)) ≡ n = omega (arith, over, u-is) in
+      (rw e at (record-crc met (window-bit opened u (r .mark) first (λ f. f .crc) (λ f drq. refl) ∙ found-crc (r .found))))
+      ∙ ap (λ (sum : ℕ). not (eqb sum 0)) closes
 
   pub within : from + size ≤ n
   within = omega (arith, over)

@@ -1,7 +1,7 @@
 -- A Read Sector after a data mark: the data field, the two CRC cells, and the end of the record or the search after it. It is
 -- said of any record, from any byte time on, and whatever its CRC is. Assumes nothing.
 use mathlib.Core.Path.{_≡_, refl, sym, ap, ap₂, _∙_, subst}
-use mathlib.Core.Bool.{Bool, true, false, not, or-false}
+use mathlib.Core.Bool.{Bool, true, false, not, _||_, or-false}
 use mathlib.Core.List.{List}
 use Prim.Native.Nat.{ℕ, suc, _+_, _-_, _≤_, _<_}
 use native.Mathlib.Decide.{decLt}
@@ -17,6 +17,7 @@ use Rattle.activity.specs.declared.Act.{Act}
 use Rattle.activity.specs.declared.Activity.{Activity}
 use Rattle.activity.specs.declared.Activity.the-variants.{Idle, Data}
 use Rattle.activity.specs.declared.Deed.the-variants.{Nothing, Deliver, Record}
+use Rattle.registers.specs.declared.Flags.{Flags}
 use Rattle.search.specs.Search.{afresh, afterRecord}
 use Rattle.reading.specs.Reading.{recordFollows}
 use Rattle.effects.proofs.Apart.{regsAfter, flagsAfter}
@@ -28,7 +29,7 @@ use Rattle.hosts.proofs.Keeps.{nothing-keeps, deliver-keeps, record-kee
 use Rattle.hosts.proofs.Views.{View, viewWith, viewOf, loses, Outside, cellUnder, seenIn}
 use Rattle.hosts.proofs.ReadActs.{Does, data-on, crc-on, crc-end}
 use Rattle.hosts.proofs.Courses.{Course, deskAt, besideAt, Lasts}
-use Rattle.hosts.proofs.Phases.{stands, PassesTo, Stands, stands-lasts, deed-is, flags-on, acts-within, acts-on, passes-on, lasts-from}
+use Rattle.hosts.proofs.Phases.{stands, PassesTo, Leaves, Stands, stands-lasts, deed-is, flags-on, acts-within, acts-on, passes-on, lasts-from, bit-stays}
 use Rattle.hosts.proofs.Passing.{OnTrack, cell-at}
 use Rattle.hosts.proofs.Windows.{cellsAfter}
 
@@ -163,6 +164,26 @@ module _ {Rows : List ℕ → Type 0} {c : Course Rows} {t : ℕ} {v : View} {m 
   record-flags =
       let e : suc (m + suc size) ≡ m + (size + 2) = omega arith in
       rw e at (flags-on c t v (reads (suc size) (omega arith)) refl (r .rows) (last-act (suc size) _ refl))
+
+  -- up to then bit 3 stays, and so where it was off it is on at the end exactly where the register is not 0: "bit 3 if bad"
+  pub record-crc :
+      deskAt c (t + m) .machine .flags .crc ≡ false
+      → deskAt c (t + (m + (size + 2))) .machine .flags .crc ≡ not (eqb (registerAfter v m crc (suc (suc size))) 0)
+  unfolding busyIn flagsAfter effectOf delivered addressNamed recordOver recordRead cellTaken stepped halted
+  record-crc off =
+      ap (λ (f : Flags). f .crc) record-flags
+      ∙ ap (λ (before : Bool). before || not (eqb closing 0))
+      (bit-stays c t v (r .rows) (λ f. f .crc) m dataAt (suc size) (λ i l. reads i (omega arith)) (λ i l. refl) leaves ∙ off)
+    where
+      leaves : (i : ℕ) → i < suc size → Leaves (λ (f : Flags). f .crc) (deedAt (c .host) (c .desk) (t + (m + i)))
+      leaves i l = by (decLt i size)
+        where
+          by : Dec (i < size) → Leaves (λ (f : Flags). f .crc) (deedAt (c .host) (c .desk) (t + (m + i)))
+          by (yes h) = subst (Leaves (λ (f : Flags). f .crc)) (sym (hands-deed i h)) (λ f drq. refl)
+          by (no h) =
+              let e : size ≡ i = omega arith in
+              subst (Leaves (λ (f : Flags). f .crc))
+              (sym (ap (λ (k : ℕ). deedAt (c .host) (c .desk) (t + (m + k))) (sym e) ∙ first-deed)) (λ f drq. refl)
 
   -- ---- its end
 

@@ -1,5 +1,5 @@
 -- A Read Sector after an ID: the window for the data mark. It is said of any record, from any byte time on. Assumes nothing.
-use mathlib.Core.Path.{_≡_, refl, ap, _∙_}
+use mathlib.Core.Path.{_≡_, refl, sym, ap, _∙_, subst}
 use mathlib.Core.Bool.{Bool, true, false}
 use mathlib.Core.List.{List}
 use Prim.Native.Nat.{ℕ, suc, _+_, _-_, _≤_, _<_}
@@ -16,12 +16,13 @@ use Rattle.activity.specs.Limits.{busyIn}
 use Rattle.activity.specs.declared.Activity.{Activity}
 use Rattle.activity.specs.declared.Activity.the-variants.{Idle, Window, Data}
 use Rattle.activity.specs.declared.Deed.the-variants.{Nothing, NotFound}
+use Rattle.registers.specs.declared.Flags.{Flags}
 use Rattle.hosts.specs.Bytes.{deedAt}
 use Rattle.hosts.proofs.Keeps.{nothing-keeps}
 use Rattle.hosts.proofs.Views.{View, Outside, cellUnder}
 use Rattle.hosts.proofs.ReadActs.{Does, window-on, window-met, window-lost}
-use Rattle.hosts.proofs.Courses.{Course, besideAt, Lasts}
-use Rattle.hosts.proofs.Phases.{stands, Stands, stands-lasts, deed-is, passes-on, loses-on, lasts-from}
+use Rattle.hosts.proofs.Courses.{Course, deskAt, besideAt, Lasts}
+use Rattle.hosts.proofs.Phases.{stands, Leaves, Stands, stands-lasts, deed-is, passes-on, loses-on, lasts-from, bit-stays}
 use Rattle.hosts.proofs.Passing.{OnTrack, streamFrom, cell-at}
 
 -- ---- the data mark
@@ -173,3 +174,14 @@ module _ {Rows : List ℕ → Type 0} {c : Course Rows} {t : ℕ} {v : View} {j 
             let e : u ≡ n = omega arith in
             deed-is c t v here refl (r .rows)
             (meets-act n (besideAt c (t + (j + n))) mark (rw e at (first .met)))
+
+    -- so the status bits stay up to it
+    pub window-bit :
+        (bit : Flags → Bool)
+        → Leaves bit Nothing
+        → bit (deskAt c (t + (j + suc u)) .machine .flags) ≡ bit (deskAt c (t + j) .machine .flags)
+    unfolding busyIn
+    window-bit bit leaves =
+        bit-stays c t v (r .rows) bit j windowAt (suc u)
+        (λ k l. awaits k (omega (arith, first .near)) (λ i h. first .none i (omega arith))) (λ k l. refl)
+        (λ k l. subst (Leaves bit) (sym (awaits-deed k (omega arith))) leaves)

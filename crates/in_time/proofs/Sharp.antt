@@ -15,11 +15,10 @@ use borrow.Author.Tests.{ltb-true, leb-true, eqb-false}
 use Rattle.common.proofs.Cases.{never}
 use Rattle.common.proofs.Arms.{range}
 use Rattle.crc.specs.Crc.{crcBit, crcBits, crcByte}
-use Rattle.scan.specs.Marks.{leadOf}
+use Rattle.scan.specs.Marks.{sync, leadOf}
 use Rattle.scan.specs.DataMarks.{markByte, windowOf}
 use Rattle.scan.specs.Streams.{MarkAt, crcFrom, idFrom, IdEnds}
-use Rattle.scan.specs.declared.DataMark.{DataMark}
-use Rattle.scan.specs.declared.DataMark.the-variants.{Fb, F8}
+use Rattle.scan.specs.declared.DataMark.the-variants.{Fb}
 use Rattle.scan.specs.declared.Id.{Id}
 use Rattle.scan.proofs.Ids.{ids}
 use Rattle.scan.proofs.DataMarks.{data-marks}
@@ -153,17 +152,12 @@ found =
 after : (i : ℕ) → afterId scene 2056 i ≡ getD track ((2057 + i) % 2048) 0
 after i = cell (2057 + i)
 
--- no data mark's byte is among the first 42 of its cells
-no-byte : (mark : DataMark) (u : ℕ) → u < 42 → afterId scene 2056 u ≡ markByte mark → ⊥
-unfolding markByte
-no-byte mark u below e = by mark (sym (after u) ∙ e)
+-- no flagged A1 is among the first 39 of its cells, so no mark ends with the first 42
+no-sync : (u : ℕ) → u < 39 → afterId scene 2056 u ≡ sync → ⊥
+no-sync u below e = eqb-false _ _ (sym (range is {x = u} 0 39 refl (omega arith) below)) (sym (after u) ∙ e)
   where
-    is : ℕ → ℕ → Bool
-    is b k = eqb (getD track ((2057 + k) % sampleLength) 0) b
-
-    by : (mark : DataMark) → getD track ((2057 + u) % sampleLength) 0 ≡ markByte mark → ⊥
-    by Fb = eqb-false _ _ (sym (range (is 0xFB) {x = u} 0 42 refl (omega arith) below))
-    by F8 = eqb-false _ _ (sym (range (is 0xF8) {x = u} 0 42 refl (omega arith) below))
+    is : ℕ → Bool
+    is k = eqb (getD track ((2057 + k) % sampleLength) 0) sync
 
 -- the 43rd is one
 marks : FirstMarkIn true (afterId scene 2056) Fb 42
@@ -175,7 +169,7 @@ marks =
           unmet-by _
           (λ mark met.
           let (a, p, stands) = data-marks true (afterId scene 2056) u mark .0 met in
-          no-byte mark u below (ap (afterId scene 2056) (sym p) ∙ stands .4));
+          no-sync a (omega arith) (stands .1));
       met = data-marks true (afterId scene 2056) 42 Fb .1 (39, refl, (omega arith, after 39, after 40, after 41, after 42));
     }
 

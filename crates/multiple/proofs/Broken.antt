@@ -21,8 +21,9 @@ use Rattle.hosts.proofs.Seeking.{Entry}
 use Rattle.hosts.proofs.Views.{View}
 use Rattle.hosts.proofs.Working.{TakenUp, Working, low-working, courseOf, Heads, begins, waits-lasts}
 use Rattle.multiple.specs.Multiple.{EndedMultiple, endOf, RecordFrom, GoodCrc, passedBy, GoodRecords, none, more, MultiplePremises, BrokenEnds}
-use Rattle.multiple.proofs.Searches.{Begins, LastsUntil, Comes, goes-on, broken, lost, searched}
-use Rattle.multiple.proofs.Multiple.{shows-broken, raised}
+use Rattle.multiple.proofs.Searches.{Begins, LastsUntil, Comes, goes-on, stops, lost, searched, bad-bit}
+use Rattle.multiple.proofs.Ended.{raised}
+use Rattle.multiple.proofs.Multiple.{as-read, shows-broken}
 use Rattle.multiple.proofs.OneRecord.{same-marks, one-end, good-both, no-other}
 
 -- ---- from a search on
@@ -44,25 +45,25 @@ module _ {s : Scene} (w : Working LowRow s ReadSector) (multiple : isMultiple (s
       → (GoodCrc r → ⊥)
       → Over t r
   unfolding busyIn
-  comes-over {sector} {t} none b r bad = by (searched w multiple sector t b)
+  comes-over {sector} {t} none b r bad = by (searched w sector t b)
     where
       by : Comes w sector t → Over t r
-      by (goes-on r′ good lasting next) = absurd (bad (good-both r′ r good))
-      by (broken r′ worse lasting k over here crc deleted drq) =
-          let there : t + k ≡ passedBy r = over ∙ one-end r′ r in
+      by (goes-on r′ multiple good lasting next) = absurd (bad (good-both r′ r good))
+      by (stops r′ worse lasting k last-cell here crc deleted drq) =
+          let there : t + k ≡ passedBy r = last-cell ∙ one-end r′ r in
           record {
             lasting = λ i l h. lasting i l (omega (arith, one-end r′ r));
             over = rw there at (ap (λ (v : View). busyIn (v .activity)) (here .view));
             sr = rw there at (ap (λ (v : View). v .sr) (here .view));
-            crc = rw there at crc;
+            crc = (rw there at crc) ∙ bad-bit r′ (worse multiple);
             found = rw there at (ap (λ (v : View). v .missing) (here .view));
             deleted = (rw there at deleted) ∙ ap isDeleted (same-marks r′ r .1);
           }
       by (lost k nothing here) = absurd (no-other nothing r)
-  comes-over {sector} {t} (more it good rest) b r bad = by (λ next. comes-over rest next r bad) (searched w multiple sector t b)
+  comes-over {sector} {t} (more it good rest) b r bad = by (λ next. comes-over rest next r bad) (searched w sector t b)
     where
       by : (Begins w ((sector + 1) % 256) (passedBy it) → Over (passedBy it) r) → Comes w sector t → Over t r
-      by on (goes-on it′ good′ lasting next) =
+      by on (goes-on it′ multiple good′ lasting next) =
           let rest = on (subst (Begins w ((sector + 1) % 256)) (one-end it′ it) next) in
           record {
             lasting = λ i l h. either i (decLt i (passedBy it)) l h (rest .lasting);
@@ -77,7 +78,7 @@ module _ {s : Scene} (w : Working LowRow s ReadSector) (multiple : isMultiple (s
               → Lasts (courseOf w) (s .row) i
           either i (yes m) l h later = lasting i l (omega (arith, one-end it′ it))
           either i (no m) l h later = later i (omega arith) h
-      by on (broken it′ bad′ lasting k over here crc deleted drq) = absurd (bad′ (good-both it it′ good))
+      by on (stops it′ bad′ lasting k last-cell here crc deleted drq) = absurd (bad′ multiple (good-both it it′ good))
       by on (lost k nothing here) = absurd (no-other nothing it)
 
 -- ---- from the load on
@@ -101,7 +102,7 @@ module _ (s : Scene) (asked : MultiplePremises s) where
   broken-ends begun sector since from good r bad =
       record {
         ends = ends;
-        raised = raised ended;
+        raised = raised (as-read ended);
         sr = over .sr;
         shows = shows-broken ended (r .mark) (over .crc) (over .found) (over .deleted);
       }

@@ -1,29 +1,17 @@
 -- There is one record that a search comes to, or none: two of them have the same ID, mark and last cell. Assumes nothing.
-use mathlib.Core.Path.{_≡_, refl, sym, ap, ap₂, _∙_, subst}
-use mathlib.Core.Bool.{Bool, true, false}
+use mathlib.Core.Path.{_≡_, sym, ap, ap₂, _∙_, subst}
+use mathlib.Core.Bool.{Bool}
 use Prim.Native.Nat.{ℕ, _+_, _<_}
 use native.Mathlib.Decide.{decLt}
 use native.Mathlib.Omega.{arith}
 use Rattle.scan.specs.Marks.{leadOf}
-use Rattle.scan.specs.DataMarks.{markByte}
-use Rattle.scan.specs.Streams.{MarkAt, idFrom, idWidth, crcFrom}
+use Rattle.scan.specs.Streams.{idFrom, idWidth, crcFrom}
 use Rattle.scan.specs.declared.DataMark.{DataMark}
-use Rattle.scan.specs.declared.DataMark.the-variants.{Fb, F8}
+use Rattle.scan.proofs.Marks.{mark-last-byte}
+use Rattle.scan.proofs.DataMarks.{one-byte}
 use Rattle.fields.specs.Rounds.{MarkWithin, FirstMark}
 use Rattle.hosts.specs.Scenes.{Scene, fieldBytes}
 use Rattle.multiple.specs.Multiple.{cellsBy, GoodMatch, windowFrom, RecordFrom, fieldCells, GoodCrc, passedBy, NoRecord, no-match, no-mark}
-
-one-byte : (mark other : DataMark) → markByte mark ≡ markByte other → mark ≡ other
-unfolding markByte
-one-byte Fb Fb e = refl
-one-byte Fb F8 e = absurd (omega arith)
-one-byte F8 Fb e = absurd (omega arith)
-one-byte F8 F8 e = refl
-
-byte-once : (mfm : Bool) (cells : ℕ → ℕ) (a b b′ : ℕ) → MarkAt mfm cells a b → MarkAt mfm cells a b′ → b ≡ b′
-unfolding MarkAt
-byte-once false cells a b b′ (low, e) (low′, e′) = omega arith
-byte-once true cells a b b′ (low, x, y, z, e) (low′, x′, y′, z′, e′) = sym e ∙ e′
 
 -- one first data mark in a window
 one-mark :
@@ -38,7 +26,7 @@ one-mark mfm cells place {mark} {other} {a} {b} {cell} {cell′} f g = by (decLt
     by (no l) (yes m) = absurd (f .first other b cell′ m (g .within))
     by (no l) (no m) =
         let same : a ≡ b = omega (arith, f .within .byte, g .within .byte) in
-        (same, one-byte mark other (byte-once mfm cells b _ _ (rw same at (f .within .stands)) (g .within .stands)))
+        (same, one-byte mark other (sym (mark-last-byte mfm cells b _ (rw same at (f .within .stands))) ∙ mark-last-byte mfm cells b _ (g .within .stands)))
 
 -- one good match
 one-match : {s : Scene} {sector t : ℕ} (m m′ : GoodMatch s sector t) → m .cell ≡ m′ .cell

@@ -1,13 +1,14 @@
--- A multiple read from a search on: it comes to a good record and searches afresh, to a bad one and ends, or to none and ends.
--- Assumes nothing.
+-- A Read Sector from a search on: it comes to a record and ends, or searches afresh where the record is good and m is on; or it comes
+-- to none and ends. Assumes nothing.
 use mathlib.Core.Path.{_≡_, refl, sym, ap, _∙_, subst}
-use mathlib.Core.Bool.{Bool, true, false, not, _||_, or-true}
+use mathlib.Core.Bool.{Bool, true, false, true≢false, not}
 use mathlib.Core.List.{List}
 use mathlib.Core.Logic.{inl, inr}
 use Prim.Native.Nat.{ℕ, suc, _+_, _-_, _%_, _≤_, _<_}
 use native.Mathlib.Nat.{mod-add-mod}
 use native.Mathlib.Decide.{ℕ-discrete}
 use native.Mathlib.Omega.{arith}
+use lib.Dec.{eqb}
 use lib.ListN.{length}
 use borrow.Author.Tests.{ne-eqb}
 use Rattle.scan.specs.Marks.{byteOf, leadOf, markCrc}
@@ -32,24 +33,28 @@ use Rattle.hosts.specs.Scenes.{Scene, loaded, fieldBytes}
 use Rattle.hosts.specs.Tracks.{positionAt}
 use Rattle.hosts.proofs.ByteTimes.{next-drq}
 use Rattle.hosts.proofs.DataFields.{sum-same}
-use Rattle.hosts.proofs.Courses.{deskAt, Lasts}
+use Rattle.hosts.proofs.Courses.{Lasts}
 use Rattle.hosts.proofs.Firsts.{First, FirstOrNone, first}
 use Rattle.hosts.proofs.FirstMarks.{field-register}
 use Rattle.hosts.proofs.Lengths.{length-bytes}
 use Rattle.hosts.proofs.Passing.{streamFrom, head-inside}
 use Rattle.hosts.proofs.Phases.{Stands}
 use Rattle.hosts.proofs.Pulses.{pulseTime, pulses-before, pulse-there}
-use Rattle.hosts.proofs.ReadActs.{bad-over, good-follows}
-use Rattle.hosts.proofs.Records.{Marked, byteAfter, registerAfter, raisedIn, closing, record-lasts, last-deed, record-ends, record-again, record-flags}
+use Rattle.hosts.proofs.ReadActs.{single-over, bad-over, good-follows}
+use Rattle.hosts.proofs.Records.{Marked, byteAfter, registerAfter, raisedIn, closing, follows as follows-on, record-lasts, last-deed, record-ends, record-again, record-flags, record-crc}
 use Rattle.hosts.proofs.RingLaws.{turns-add}
 use Rattle.hosts.proofs.Searching.{reads-two, hitAt, idSeeker, id-seeks}
 use Rattle.hosts.proofs.Seeking as seeking
 use Rattle.hosts.proofs.Seeking.{Entry, SeeksIn, SearchFrom}
 use Rattle.hosts.proofs.Views.{View, viewWith, Outside}
-use Rattle.hosts.proofs.Windows.{isMet, which-mark, FirstMarkIn, cellsAfter, Opened, opened-lasts, unmarked, marked}
+use Rattle.hosts.proofs.Windows.{isMet, which-mark, FirstMarkIn, cellsAfter, Opened, opened-lasts, unmarked, marked, window-bit}
 use Rattle.hosts.proofs.Working.{Working, courseOf, long, ground-track}
 use Rattle.multiple.specs.Multiple.{endOf, cellsBy, windowFrom, RecordFrom, fieldCells, GoodCrc, passedBy, NoRecord, no-match, no-mark}
 use Rattle.multiple.proofs.Cells.{viewAt, tracked, head-at, HeardId, heard, window-is, recordOf, unmarked-window, unmatched}
+
+-- bit 3 of a bad record
+pub bad-bit : {s : Scene} {sector t : ℕ} (r : RecordFrom s sector t) → (GoodCrc r → ⊥) → not (eqb (crcFrom (cellsBy s) (r .mark-at) (fieldCells r)) 0) ≡ true
+bad-bit r bad = ap not (ne-eqb _ 0 bad)
 
 module _ {Rows : List ℕ → Type 0} {s : Scene} (w : Working Rows s ReadSector) where
   -- the search that begins in byte time t with this SR: what it begins with, which is a head that has settled or a search
@@ -71,20 +76,21 @@ module _ {Rows : List ℕ → Type 0} {s : Scene} (w : Working Rows s ReadSector
 
   -- what it comes to
   pub data Comes (sector t : ℕ) : Type 0 where
-    -- a good record, and the next search
+    -- a good record, and with m the next search
     goes-on : (r : RecordFrom s sector t)
+        → isMultiple (s .byte) ≡ true
         → GoodCrc r
         → LastsUntil t (passedBy r)
         → Begins ((sector + 1) % 256) (passedBy r)
         → Comes sector t
-    -- a bad record, and the end
-    broken : (r : RecordFrom s sector t)
-        → (GoodCrc r → ⊥)
+    -- a record, and the end: with m it is a bad one
+    stops : (r : RecordFrom s sector t)
+        → (isMultiple (s .byte) ≡ true → GoodCrc r → ⊥)
         → LastsUntil t (passedBy r)
         → {a : Activity} (k : ℕ)
         → t + k ≡ passedBy r
         → Stands (courseOf w) t (viewAt s sector t a) k false Idle
-        → endOf s (t + k) .flags .crc ≡ true
+        → endOf s (t + k) .flags .crc ≡ not (eqb (crcFrom (cellsBy s) (r .mark-at) (fieldCells r)) 0)
         → endOf s (t + k) .flags .deleted ≡ isDeleted (r .mark)
         → KeepsDrq (t + k)
         → Comes sector t
@@ -94,7 +100,7 @@ module _ {Rows : List ℕ → Type 0} {s : Scene} (w : Working Rows s ReadSector
         → Stands (courseOf w) t (viewAt s sector t a) k true Idle
         → Comes sector t
 
-  module _ (multiple : isMultiple (s .byte) ≡ true) (sector t : ℕ) (b : Begins sector t) where
+  module _ (sector t : ℕ) (b : Begins sector t) where
     abbrev mfm : Bool
     mfm = s .machine .mfm
 
@@ -186,8 +192,8 @@ module _ {Rows : List ℕ → Type 0} {s : Scene} (w : Working Rows s ReadSector
             ∙ ap (crcFrom (cellsBy s) (it .mark-at)) width
 
         -- and so it is with its last cell
-        over : t + (m + (size + 2)) ≡ passedBy it
-        over = omega (arith, it .marked .within .byte, its .ends, size-is)
+        last-cell : t + (m + (size + 2)) ≡ passedBy it
+        last-cell = omega (arith, it .marked .within .byte, its .ends, size-is)
 
         lasting : LastsUntil t (passedBy it)
         lasting k l h =
@@ -197,7 +203,7 @@ module _ {Rows : List ℕ → Type 0} {s : Scene} (w : Working Rows s ReadSector
             (λ i g.
             opened-lasts opened (λ i g. seeking.seek-lasts search q (omega (arith, soon)) (f .none) i (omega arith)) u (met .near)
             (met .none) i (omega arith))
-            (k - t) (omega (arith, over)))
+            (k - t) (omega (arith, last-cell)))
 
         -- a good one: "With m, SR goes up by one (255 to 0) and the search starts afresh"
         next-view : raisedIn view (m + (size + 2)) ≡ viewAt s ((sector + 1) % 256) (t + (m + (size + 2))) (afresh 0)
@@ -206,19 +212,19 @@ module _ {Rows : List ℕ → Type 0} {s : Scene} (w : Working Rows s ReadSector
             ap (λ (ring : Ring). viewWith view (s .row) ring (view .tr) ((sector + 1) % 256) false (afresh 0))
             (turns-add t (m + (size + 2)) (s .machine .ring))
 
-        follows : closing field ≡ 0 → Begins ((sector + 1) % 256) (passedBy it)
+        follows : isMultiple (s .byte) ≡ true → closing field ≡ 0 → Begins ((sector + 1) % 256) (passedBy it)
         unfolding orderOf scanAfter
-        follows good =
+        follows multiple good =
             record {
               first = afresh 0;
               entry = Entry.begun;
               stands =
-                  subst (λ (u : ℕ). Stands (courseOf w) u (viewAt s ((sector + 1) % 256) u (afresh 0)) 0 false (afresh 0)) over
+                  subst (λ (u : ℕ). Stands (courseOf w) u (viewAt s ((sector + 1) % 256) u (afresh 0)) 0 false (afresh 0)) last-cell
                   (subst (λ (x : View). Stands (courseOf w) (t + (m + (size + 2))) x 0 false (afresh 0)) next-view
                   (record-again field (good-follows _ (closing field) multiple good)));
             }
 
-        -- a bad one: DRQ stays
+        -- any other ends it: DRQ stays, ..
         drq : KeepsDrq (t + (m + (size + 2)))
         unfolding drqAfter effectOf delivered addressNamed recordOver recordRead cellTaken stepped halted
         drq k e =
@@ -228,25 +234,31 @@ module _ {Rows : List ℕ → Type 0} {s : Scene} (w : Working Rows s ReadSector
             ∙ ap (drqAfter (servedAt (s .host) k (at (s .host) (loaded s) k) .machine .wires .drq))
             (ap (deedAt (s .host) (loaded s)) (sym here) ∙ last-deed field)
 
-        breaks : (closing field ≡ 0 → ⊥) → Comes sector t
-        unfolding orderOf flagsAfter effectOf delivered addressNamed recordOver recordRead cellTaken stepped halted
-        breaks bad =
-            let told = record-flags field in
-            broken it (λ good. bad (closes ∙ good)) lasting (m + (size + 2)) over
-            (record-ends field (bad-over _ (closing field) bad))
-            (ap (λ (f : Flags). f .crc) told
-            ∙ ap (λ (good : Bool). deskAt (courseOf w) (t + (m + suc size)) .machine .flags .crc || not good)
-            (ne-eqb (closing field) 0 bad)
-            ∙ or-true (deskAt (courseOf w) (t + (m + suc size)) .machine .flags .crc))
-            (ap (λ (f : Flags). f .deleted) told)
+        -- .. and bit 3 is on exactly where the register is not 0: the match has cleared it
+        told-crc : endOf s (t + (m + (size + 2))) .flags .crc ≡ not (eqb (crcFrom (cellsBy s) (it .mark-at) (fieldCells it)) 0)
+        unfolding flagsAfter effectOf delivered addressNamed recordOver recordRead cellTaken stepped halted
+        told-crc =
+            record-crc field
+            (window-bit opened u mark met (λ f. f .crc) (λ f drq. refl)
+            ∙ ap (λ (f : Flags). f .crc) (seeking.hit-flags search q soon (f .none) (f .passes)))
+            ∙ ap (λ (sum : ℕ). not (eqb sum 0)) closes
+
+        ended : follows-on field ≡ false → (isMultiple (s .byte) ≡ true → closing field ≡ 0 → ⊥) → Comes sector t
+        unfolding flagsAfter effectOf delivered addressNamed recordOver recordRead cellTaken stepped halted
+        ended last bad =
+            stops it (λ multiple good. bad multiple (closes ∙ good)) lasting (m + (size + 2)) last-cell (record-ends field last) told-crc
+            (ap (λ (f : Flags). f .deleted) (record-flags field))
             drq
 
         comes : Comes sector t
-        comes = by (ℕ-discrete (closing field) 0)
+        unfolding orderOf
+        comes = by (isMultiple (s .byte)) (ℕ-discrete (closing field) 0) refl
           where
-            by : Dec (closing field ≡ 0) → Comes sector t
-            by (yes good) = goes-on it (sym closes ∙ good) lasting (follows good)
-            by (no bad) = breaks bad
+            by : (m : Bool) → Dec (closing field ≡ 0) → isMultiple (s .byte) ≡ m → Comes sector t
+            by true (yes good) multiple = goes-on it multiple (sym closes ∙ good) lasting (follows multiple good)
+            by true (no bad) multiple = ended (bad-over _ (closing field) bad) (λ m. bad)
+            by false zero single =
+                ended (single-over _ (closing field) single) (λ m good. true≢false (sym m ∙ single))
 
       -- ---- or no data mark in its window
 

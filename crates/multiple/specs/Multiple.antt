@@ -29,6 +29,13 @@ pub record MultipleAccepted (s : Scene) : Type 0 where
   pub multiple : isMultiple (s .byte) ≡ true
   pub accepted : loadRegister (s .machine) (s .lines) 0 (s .byte) .number ≡ 0
 
+-- a Read Sector, with m or without, accepted, that ends by itself in byte time n, no other command being accepted before that
+pub record EndedReadSector (s : Scene) (n : ℕ) : Type 0 where
+  pub reads : decodedOf (s .machine .chip) (s .byte) ≡ Taken ReadSector
+  pub accepted : loadRegister (s .machine) (s .lines) 0 (s .byte) .number ≡ 0
+  pub alone : AloneUntil (s .host) (loaded s) n
+  pub ends : EndsAt (s .host) (loaded s) n
+
 -- it ends by itself in byte time n, no other command being accepted before that; nothing is asked of the lines, of the host's
 -- other calls or of the row
 pub record EndedMultiple (s : Scene) (n : ℕ) : Type 0 where
@@ -119,7 +126,7 @@ pub record LastSearch (s : Scene) (n : ℕ) : Type 0 where
   -- "When it ends by itself, Busy goes off and INTRQ on in that byte time."
   pub raised : endOf s n .wires .intrq ≡ true
 
--- the status byte at a broken record: bit 3 on, bit 4 off, "bit 5 on if F8, else off"
+-- the status byte at a broken record: bit 3 on, bit 4 off, bit 5 by what its mark counts as
 pub record ShowsBroken (s : Scene) (n : ℕ) (mark : DataMark) : Type 0 where
   pub crc : (l : Lines) → crcError (endOf s n) l ≡ true
   pub found : (l : Lines) → notFound (endOf s n) l ≡ false

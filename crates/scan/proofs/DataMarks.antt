@@ -3,7 +3,7 @@
 use mathlib.Core.Path.{_≡_, refl, sym, ap, _∙_}
 use mathlib.Core.Bool.{Bool, true, false}
 use mathlib.Core.Logic.{_↔_}
-use Prim.Native.Nat.{ℕ, zero, suc, _≤_}
+use Prim.Native.Nat.{ℕ, zero, suc, _≤_, _<_}
 use native.Mathlib.Omega.{arith}
 use lib.Dec.{eqb}
 use borrow.Author.Tests.{eqb-true}
@@ -31,12 +31,17 @@ past (Mark b) =
     by-cond (λ s. soughtPast s ≡ 0) (eqb b 0xFB) (λ e. refl)
     (λ e. by-cond (λ s. soughtPast s ≡ 0) (eqb b 0xF8) (λ f. refl) (λ f. refl))
 
+-- so the scanner for data marks counts them as the scanner for marks does
+pub data-run : (mfm : Bool) (cell run : ℕ) → soughtPast (dataMarkStep mfm cell run) ≡ runPast (markStep mfm cell run)
+unfolding dataMarkStep
+data-run mfm cell run = past (markStep mfm cell run)
+
 pub same-run : (mfm : Bool) (cells : ℕ → ℕ) (n : ℕ) → soughtAfter mfm cells n ≡ runAfter mfm cells n
-unfolding soughtAfter runAfter dataMarkStep
+unfolding soughtAfter runAfter
 same-run mfm cells zero = refl
 same-run mfm cells (suc n) =
-    ap (λ (run : ℕ). soughtPast (dataMarkIn (markStep mfm (cells n) run))) (same-run mfm cells n)
-    ∙ past (passedAt mfm cells n)
+    ap (λ (run : ℕ). soughtPast (dataMarkStep mfm (cells n) run)) (same-run mfm cells n)
+    ∙ data-run mfm (cells n) (runAfter mfm cells n)
 
 -- which byte it was
 named : (b : ℕ) (mark : DataMark) → dataMarkOf b ≡ Met mark → b ≡ markByte mark
@@ -53,6 +58,16 @@ met : (mark : DataMark) → dataMarkOf (markByte mark) ≡ Met mark
 unfolding dataMarkOf markByte
 met Fb = refl
 met F8 = refl
+
+-- their bytes are F8 to FB
+pub mark-byte : (mark : DataMark) → (0xF8 ≤ markByte mark) × (markByte mark < 0xFE)
+unfolding markByte
+mark-byte Fb = (omega arith, omega arith)
+mark-byte F8 = (omega arith, omega arith)
+
+-- and no two of them have one
+pub one-byte : (mark other : DataMark) → markByte mark ≡ markByte other → mark ≡ other
+one-byte mark other e = let both : Met mark ≡ Met other = sym (met mark) ∙ ap dataMarkOf e ∙ met other in cc
 
 -- "Data marks are FB (normal) and F8 (deleted)."
 pub data-marks :

@@ -4,7 +4,7 @@ use mathlib.Core.Path.{_≡_, refl, sym, ap, _∙_}
 use mathlib.Core.Bool.{Bool, true, false, cond, _&&_}
 use mathlib.Core.Logic.{_↔_}
 use Prim.Native.Nat.{ℕ, zero, suc, _+_, _/_, _%_, _≤_, _<_}
-use native.Mathlib.Nat.{add-zero}
+use native.Mathlib.Nat.{add-zero, mod-eq-of-lt}
 use native.Mathlib.Decide.{decLt}
 use native.Mathlib.Omega.{arith}
 use lib.Dec.{ltb, leb, eqb}
@@ -187,3 +187,9 @@ mfm cells n b = (there, back)
 pub marks : (density : Bool) (cells : ℕ → ℕ) (n b : ℕ) → (passedAt density cells n ≡ Mark b) ↔ MarkEnds density cells n b
 marks false = fm
 marks true = mfm
+
+-- the byte of a mark is in its last cell
+pub mark-last-byte : (mfm : Bool) (cells : ℕ → ℕ) (a b : ℕ) → MarkAt mfm cells a b → byteOf (cells (a + leadOf mfm)) ≡ b
+unfolding MarkAt leadOf
+mark-last-byte false cells a b (low, e) = ap (λ (x : ℕ). byteOf (cells x)) (add-zero a) ∙ ap byteOf e ∙ omega arith
+mark-last-byte true cells a b (low, x, y, z, e) = ap byteOf e ∙ mod-eq-of-lt low

@@ -9,7 +9,7 @@ use native.Mathlib.Decide.{decLt, ℕ-discrete}
 use native.Mathlib.Omega.{arith}
 use lib.Dec.{eqb}
 use lib.ListN.{length}
-use Rattle.common.proofs.Cases.{never, by-cond}
+use Rattle.common.proofs.Cases.{never, by-cond, not-on}
 use Rattle.command.specs.Commands.{decodedOf}
 use Rattle.command.specs.declared.Command.{Command}
 use Rattle.command.specs.declared.Command.the-variants.{ForceInterrupt}
@@ -32,7 +32,7 @@ use Rattle.hosts.proofs.Intrq.{ends-told}
 use Rattle.hosts.proofs.QuietCalls.{calls-activity}
 use Rattle.uses.specs.Uses.{Made, load, read, byte-time, run, Use, over, next, noCommand, passedIn, passed, passesThen, callsThen, madeThen, hostOf, dueAt}
 use Rattle.uses.specs.Courses.{Accepted, since, Course, silent, sceneOf, courseThen}
-use Rattle.uses.proofs.QuietUse.{not-on, Quiet, quiet-made, quiet-use}
+use Rattle.uses.proofs.QuietUse.{Quiet, quiet-made, quiet-use}
 use Rattle.uses.proofs.Statuses.{made-valid, use-valid, since-valid, busy-showed}
 use Rattle.uses.proofs.EveryUse.{deskOf, calledAt, turned, at-time, byte-time-turns, run-turns, lines-times, every-use, run-told, empty-run}
 

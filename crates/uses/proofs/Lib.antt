@@ -7,6 +7,7 @@ pub mod Heads
 pub mod Endings
 pub mod Over
 pub mod Decoding
+pub mod SectorReads
 pub mod Multiples
 pub mod Sessions
 pub mod Bytes

@@ -1,12 +1,12 @@
 -- The host that a use is gives no command where the use has none accepted. Assumes nothing.
 use mathlib.Core.Path.{_≡_, refl, sym, ap, _∙_, subst}
-use mathlib.Core.Bool.{Bool, true, false, not, _&&_}
+use mathlib.Core.Bool.{true, false, _&&_}
 use Prim.Native.Nat.{ℕ, zero, suc}
 use lib.Dec.{eqb}
 use Rattle.registers.specs.declared.Lines.{Lines}
 use Rattle.wd.specs.declared.Loaded.{Loaded}
 use Rattle.wd.specs.declared.Read.{Read}
-use Rattle.common.proofs.Cases.{never, both}
+use Rattle.common.proofs.Cases.{both, not-on}
 use Rattle.reachable.specs.ByteTimes.{machineAfter, rowAfter}
 use Rattle.hosts.specs.Hosts.{Call, loads, reads, calledOf, commands, NoneAccepted, none, more, Host, Desk, passesUnder, at}
 use Rattle.uses.specs.Uses.{Made, load, read, byte-time, run, Use, over, next, throughout, noCommand, callsFirst, callsThen, startsWith, passesThen, madeThen, hostOf}
@@ -15,10 +15,6 @@ use Rattle.uses.proofs.EveryUse.{calledAt, turned, at-call, at-time, by
 -- none of a host's calls is an accepted command, however long it goes on
 abbrev pub Quiet : Host → Desk → Type 0
 Quiet h d = (n : ℕ) → NoneAccepted (at h d n .machine) (h .calls n)
-
-pub not-on : (b : Bool) → not b ≡ true → b ≡ false
-not-on true e = never (cc)
-not-on false e = refl
 
 quiet-call : (c : Call) (h : Host) (d : Desk) → commands (d .machine) c ≡ false → Quiet h (calledAt c d) → Quiet (callsThen c h) d
 unfolding callsThen callsFirst at

@@ -7,7 +7,7 @@ use native.Mathlib.Nat.{zero-add}
 use native.Mathlib.Decide.{decLt}
 use native.Mathlib.Omega.{arith}
 use lib.Dec.{eqb}
-use Rattle.common.proofs.Cases.{never, both, by-cond}
+use Rattle.common.proofs.Cases.{never, both, by-cond, not-on}
 use Rattle.registers.specs.declared.Lines.{Lines}
 use Rattle.wd.specs.declared.Machine.{Machine}
 use Rattle.wd.specs.declared.Loaded.{Loaded}
@@ -20,7 +20,6 @@ use Rattle.uses.specs.Uses.{Made, load, read, byte-time, run, Use, over,
 use Rattle.uses.specs.Courses.{Accepted, since, Course, took, courseThen}
 use Rattle.uses.specs.Sessions.{serves}
 use Rattle.uses.proofs.EveryUse.{deskOf, calledAt, turned, at-call, at-time, byte-time-turns, run-told, run-turns, made-host}
-use Rattle.uses.proofs.QuietUse.{not-on}
 use Rattle.uses.proofs.Endings.{within-times, quiet-run}
 use Rattle.uses.proofs.Bytes.{ends-on, last-on}
 

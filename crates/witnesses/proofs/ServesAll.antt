@@ -1,11 +1,11 @@
 -- Whether a host serves each DRQ, as a test that computes. Assumes nothing.
-use mathlib.Core.Path.{_≡_, refl}
+use mathlib.Core.Path.{_≡_}
 use mathlib.Core.Bool.{Bool, true, false, not, _&&_, _||_}
 use mathlib.Core.List.{List, [], _∷_}
 use Prim.Native.Nat.{ℕ, zero, suc, _+_, _≤_, _<_}
 use native.Mathlib.Decide.{ℕ-discrete}
 use native.Mathlib.Omega.{arith}
-use Rattle.common.proofs.Cases.{never, both}
+use Rattle.common.proofs.Cases.{never, both, not-on}
 use Rattle.wd.specs.declared.Machine.{Machine}
 use Rattle.hosts.specs.Hosts.{Call, calledOf, Host, Desk, servedAt, passesUnder, at}
 use Rattle.served.specs.Served.{OnDrq, ServesEach}
@@ -29,17 +29,13 @@ module _ (kind other : Call → Bool) where
   implied true b e f = e
   implied false b e f = never (cc)
 
-  denied : (a : Bool) → not a ≡ true → a ≡ false
-  denied true e = never (cc)
-  denied false e = refl
-
   on-drq-so : (m : Machine) (cs : List Call) → on-drq m cs ≡ true → OnDrq kind other m cs
   unfolding on-drq
   on-drq-so m [] e = OnDrq.none
   on-drq-so m (c ∷ cs) e =
       let first = both (not (kind c) || m .wires .drq) (not (other c) && on-drq (calledOf m c) cs) e in
       let rest = both (not (other c)) (on-drq (calledOf m c) cs) (first .1) in
-      OnDrq.more (implied (kind c) (m .wires .drq) (first .0)) (denied (other c) (rest .0))
+      OnDrq.more (implied (kind c) (m .wires .drq) (first .0)) (not-on (other c) (rest .0))
       (on-drq-so (calledOf m c) cs (rest .1))
 
   module _ (h : Host) (d : Desk) where
@@ -54,7 +50,7 @@ module _ (kind other : Call → Bool) where
         let found = servedAt h k (at h d k) in
         let first = both (on-drq (at h d k .machine) (h .calls k)) _ e in
         let rest = both (not (found .machine .wires .drq)) _ (first .1) in
-        by (on-drq-so (at h d k .machine) (h .calls k) (first .0), denied (found .machine .wires .drq) (rest .0))
+        by (on-drq-so (at h d k .machine) (h .calls k) (first .0), not-on (found .machine .wires .drq) (rest .0))
         (λ m. serves-so left (suc k) (rest .1) i m (omega arith)) (ℕ-discrete k i)
       where
         by : Served k → (suc k ≤ i → Served i) → Dec (k ≡ i) → Served i
