@@ -1,6 +1,7 @@
 // What the machine is doing.
 
 use crate::command::Command;
+use crate::data_mark::DataMark;
 use crate::density::Density;
 use crate::field;
 
@@ -74,7 +75,7 @@ pub struct Window {
 pub struct RecordRead {
     pub command: Command,
     pub size: usize,
-    pub deleted: bool,
+    pub mark: DataMark,
     /// The bytes under the CRC so far, from the mark on.
     pub field: Vec<u8>,
 }

@@ -216,11 +216,7 @@ impl Bench {
 
     /// The viewer, with the current row as side 0 and the other row as side 1.
     fn view(&self, density: u16, track: u16, sector: u16) -> Option<String> {
-        let wanted = Wanted {
-            density: density_of(density)?,
-            track: byte_of(track)?,
-            sector: byte_of(sector)?,
-        };
+        let wanted = wanted_of(density, track, sector)?;
         let view = viewer::view(&self.current, &self.other, wanted);
         Some(format!(
             "Q {:02X} {:04X}{}",
@@ -251,6 +247,15 @@ fn cells_text(cells: &[u16]) -> String {
 
 fn byte_of(number: u16) -> Option<u8> {
     u8::try_from(number).ok()
+}
+
+/// What the numbers of a line Q ask the viewer for.
+pub fn wanted_of(density: u16, track: u16, sector: u16) -> Option<Wanted> {
+    Some(Wanted {
+        density: density_of(density)?,
+        track: byte_of(track)?,
+        sector: byte_of(sector)?,
+    })
 }
 
 fn density_of(number: u16) -> Option<Density> {

@@ -2,6 +2,7 @@
 // differs between the chips, so search and transfer never ask which one it is.
 
 use crate::chip::Chip;
+use crate::data_mark::DataMark;
 use crate::density::Density;
 use crate::field::LengthCodes;
 
@@ -140,12 +141,13 @@ impl Command {
         self.side_asked.map_or(true, |asked| asked == side)
     }
 
-    /// Write Sector, bit 0: the data mark is FB, or F8 for a deleted record.
-    pub fn data_mark(self) -> u8 {
+    /// Write Sector, bit 0: the data mark is F8, for a deleted record, or FB. "Write Sector still
+    /// writes FB or F8", in FM too.
+    pub fn data_mark(self) -> DataMark {
         if self.bit(0) {
-            0xF8
+            DataMark::F8
         } else {
-            0xFB
+            DataMark::FB
         }
     }
 

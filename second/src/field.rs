@@ -1,6 +1,7 @@
 // Marks, IDs and data marks, recognised by looking back at the cells that have passed.
 
 use crate::crc;
+use crate::data_mark::DataMark;
 use crate::density::Density;
 
 /// A cell is "a byte, plus 256 if written with missing clocks (flagged)".
@@ -110,16 +111,16 @@ pub fn id_at_end(density: Density, passed: &[u16]) -> Option<Id> {
     })
 }
 
-/// The data mark that the last of these cells completes, if it completes one: "data marks are
-/// FB (normal) and F8 (deleted)". The cells are those after the ID's last, so in MFM the three
-/// A1s are among them too.
-pub fn data_mark_at_end(density: Density, after_id: &[u16]) -> Option<u8> {
-    mark_at_end(density, after_id).filter(|mark| matches!(mark, 0xFB | 0xF8))
+/// The data mark that the last of these cells completes, if it completes one. The cells are those
+/// after the ID's last, so in MFM the three A1s are among them too.
+pub fn data_mark_at_end(density: Density, after_id: &[u16]) -> Option<DataMark> {
+    let byte = mark_at_end(density, after_id)?;
+    DataMark::of_byte(byte, density)
 }
 
 /// The first data mark in the window after an ID, and how many cells it ends after the ID's
 /// last. "Only the first data mark in the window is the ID's data mark."
-pub fn first_data_mark(density: Density, after_id: &[u16]) -> Option<(usize, u8)> {
+pub fn first_data_mark(density: Density, after_id: &[u16]) -> Option<(usize, DataMark)> {
     let window = density.window().min(after_id.len());
     (1..=window)
         .find_map(|place| data_mark_at_end(density, &after_id[..place]).map(|mark| (place, mark)))

@@ -3,6 +3,7 @@
 mod accepting;
 mod chaining;
 mod commands;
+mod data_marks;
 mod edges;
 mod failing;
 mod forcing;
@@ -166,7 +167,7 @@ impl Generator {
     }
 
     fn scene(&mut self) {
-        match self.random.below(30) {
+        match self.random.below(31) {
             0..=3 => {
                 let byte = self.random.below(0x80) as u8;
                 self.stepping_scene(byte);
@@ -194,6 +195,7 @@ impl Generator {
                 self.chain_scene(chain);
             }
             28 => self.late_write_scene(),
+            29 => self.data_mark_scene(),
             _ if self.random.one_in(4) => self.power_on_either(),
             _ => self.comment(),
         }
@@ -365,6 +367,16 @@ impl Generator {
         let mut laid = self.bench.current.clone();
         layout::put(&mut laid, place, cells);
         self.lay(&laid);
+    }
+
+    /// Lays the cells of this sector anywhere, its number asked for and the head at the first of
+    /// them.
+    fn lay_before_head(&mut self, number: u8, cells: &[u16]) {
+        let place = self.random.below(self.plan.length);
+        self.lay_cells(place, cells);
+        self.ask_for(number);
+        self.set_wires(READY | HEAD_LOADED);
+        self.put_head(place);
     }
 
     /// Only the two low bits of the length count, and a flag on a data cell does not.

@@ -1,12 +1,12 @@
 // The second implementation of the WD1793 and WD1797 model, written from the documents alone.
 //
 // The controller is `machine` with the files of its commands (`positioning`, `search`, `reading`,
-// `writing`); it decides what passes by looking back at lists of cells (`field`). What a command asks
-// for on each `chip` is in `command`. `bench` works the controller from a script, which comes in by a
-// `session`; `generate` makes scripts from seeds, `compare` holds another program to the bench, `soak`
-// does so until millions of byte times have passed, and `talk` awaits an answer to what it has typed.
-// `coverage` counts the scripts that would tell a machine which gets a sentence of the documents
-// wrong.
+// `writing`); it decides what passes by looking back at lists of cells (`field`), and `data_mark` has
+// the marks that begin a record. What a command asks for on each `chip` is in `command`. `bench` works
+// the controller from a script, which comes in by a `session`; `generate` makes scripts from seeds,
+// `compare` holds another program to the bench, `soak` does so until millions of byte times have
+// passed, and `talk` awaits an answer to what it has typed. `coverage` counts the scripts that would
+// tell a machine which gets a sentence of the documents wrong.
 // `picture`, `viewer` and `list` are document 01's pictures and viewer, `vectors` its CRC vectors.
 
 #![forbid(unsafe_code)]
@@ -18,6 +18,7 @@ pub mod command;
 pub mod compare;
 pub mod coverage;
 pub mod crc;
+pub mod data_mark;
 pub mod density;
 pub mod field;
 pub mod generate;

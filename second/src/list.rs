@@ -80,10 +80,11 @@ fn id_line(mark_cell: usize, id: &Id, data_mark: String) -> String {
     )
 }
 
-/// "Data mark FB, F8 or none even if bad": the ID's CRC does not count.
+/// "Data mark FB, F8 or none even if bad": the ID's CRC does not count. With the old marks the list
+/// "prints F9 or FA".
 fn data_mark_name(density: Density, after_id: &[u16]) -> String {
     match field::first_data_mark(density, after_id) {
-        Some((_, mark)) => format!("{:02X}", mark),
+        Some((_, mark)) => format!("{:02X}", mark.byte()),
         None => "none".to_string(),
     }
 }

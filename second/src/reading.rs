@@ -6,7 +6,6 @@ use crate::field::{self, ID_CELLS};
 use crate::machine::{ByteTime, Machine};
 
 const CRC_CELLS: usize = 2;
-const DELETED_MARK: u8 = 0xF8;
 
 impl Machine {
     /// "Each data byte, flags ignored, goes to DR and sets DRQ; if DRQ was still on, Lost Data."
@@ -27,8 +26,8 @@ impl Machine {
             return Activity::ReadingRecord(RecordRead {
                 command: window.command,
                 size: window.size,
-                deleted: mark == DELETED_MARK,
-                field: field::mark_bytes(self.density, mark),
+                mark,
+                field: field::mark_bytes(self.density, mark.byte()),
             });
         }
         if window.passed.len() == self.density.window() {
@@ -38,9 +37,10 @@ impl Machine {
         Activity::AwaitingDataMark(window)
     }
 
-    /// "At the second CRC cell: bit 3 if bad, bit 5 on if F8, else off, Busy off, INTRQ." DRQ is
-    /// left as it is. "If there is a CRC error at the end of the data field, the CRC error status
-    /// bit is set, and the command is terminated (even if it is a multiple record command)." (004)
+    /// "At the second CRC cell: bit 3 if bad, bit 5 on if F8, else off, Busy off, INTRQ." F9 "counts
+    /// as deleted", so bit 5 is on for it too. DRQ is left as it is. "If there is a CRC error at the
+    /// end of the data field, the CRC error status bit is set, and the command is terminated (even
+    /// if it is a multiple record command)." (004)
     pub(crate) fn go_on_reading_record(
         &mut self,
         read: RecordRead,
@@ -56,7 +56,7 @@ impl Machine {
         if after_mark < read.size + CRC_CELLS {
             return Activity::ReadingRecord(read);
         }
-        self.status.deleted = read.deleted;
+        self.status.deleted = read.mark.is_deleted();
         // A good CRC does not clear bit 3: the good match has done that already.
         if crc::of_field(&read.field) != 0 {
             self.status.crc_error = true;

@@ -106,7 +106,7 @@ impl Machine {
                 command,
                 size,
                 byte_times: 0,
-                field: field::mark_bytes(self.density, command.data_mark()),
+                field: field::mark_bytes(self.density, command.data_mark().byte()),
             }),
             _ => self.end(),
         }

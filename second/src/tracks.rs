@@ -1,5 +1,6 @@
 // Tracks made from a seed: sectors sound and damaged, laid round the ring, and noise.
 
+use crate::data_mark::DataMark;
 use crate::density::Density;
 use crate::field::{self, LengthCodes, FLAG};
 use crate::layout;
@@ -64,7 +65,7 @@ fn random_sector(random: &mut Random, plan: Plan, sector: u8, size: usize) -> Ve
     }
     cells.extend(random_id(random, plan, sector, plan.code_of(size)));
     cells.extend(random_gap(random, plan.density));
-    let mark = random.pick(&[0xFB, 0xFB, 0xFB, 0xFB, 0xF8, 0xF8, 0xFA, 0xF9]);
+    let mark = random.pick(&[0xFB, 0xFB, 0xFB, 0xF8, 0xF8, 0xF9, 0xFA]);
     let data = random.bytes(size);
     cells.extend(random_data(random, plan.density, mark, &data));
     cells
@@ -113,15 +114,21 @@ fn random_gap(random: &mut Random, density: Density) -> Vec<u16> {
     };
     let mut cells = vec![layout::gap(density); place - marks];
     if random.one_in(4) && cells.len() > marks {
-        let mark = random.pick(&[0xFE, 0xFC, 0xFA, 0xF8]);
+        let mark = random.pick(&[0xFE, 0xFC, 0xFB, 0xFA, 0xF9, 0xF8]);
         let start = random.below(cells.len() - marks);
         layout::put(&mut cells, start, &field::mark_cells(density, mark));
     }
     cells
 }
 
+/// A data field. Now and then its CRC is that of a field with another mark.
 fn random_data(random: &mut Random, density: Density, mark: u8, data: &[u8]) -> Vec<u16> {
-    let mut cells = layout::field_cells(density, mark, data);
+    let under_crc = match random.below(12) {
+        0 => random.pick(&DataMark::ALL).byte(),
+        _ => mark,
+    };
+    let mut cells = layout::field_cells(density, under_crc, data);
+    layout::put(&mut cells, 0, &field::mark_cells(density, mark));
     let marks = field::mark_length(density);
     if random.one_in(6) {
         let place = random.between(marks, cells.len() - 1);
@@ -139,7 +146,8 @@ fn random_data(random: &mut Random, density: Density, mark: u8, data: &[u8]) -> 
 fn add_noise(random: &mut Random, plan: Plan, cells: &mut [u16]) {
     let track = u16::from(plan.track);
     let pieces = [
-        0x1A1, 0x1A1, 0x1A1, 0xA1, 0xFE, 0xFB, 0xF8, 0x1FE, 0x1FB, 0x1C2, track, track, 1, 0,
+        0x1A1, 0x1A1, 0x1A1, 0xA1, 0xFE, 0xFB, 0xFA, 0xF9, 0xF8, 0x1FE, 0x1FB, 0x1FA, 0x1F9, 0x1C2,
+        track, track, 1, 0,
     ];
     let count = random.between(50, 300);
     let noise: Vec<u16> = (0..count).map(|_| random.pick(&pieces)).collect();

@@ -88,7 +88,7 @@ impl Machine {
     ) -> Activity {
         let mut write = write;
         write.byte_times += 1;
-        let mark = write.command.data_mark();
+        let mark = write.command.data_mark().byte();
         match write.work(self.density) {
             Work::Nothing => {}
             Work::Request => self.data_request = true,

@@ -147,30 +147,42 @@ fn cells_line(place: usize, cells: &[u16]) -> String {
     format!("C {:X}{}", place, named)
 }
 
-/// Lines that lay sectors 1, 2, .. of 128 bytes FF, their data CRCs good or not, and read them with
-/// this command; nobody serves it.
-fn reads(byte: u8, good: &[bool]) -> Vec<String> {
+/// Lines that lay sectors 1, 2, .. of 128 bytes FF with this mark, their data CRCs good or not.
+fn sectors(mark: u8, good: &[bool]) -> Vec<String> {
     let mut lines = Vec::new();
     for (index, good) in good.iter().enumerate() {
         let place = 100 + 200 * index;
         let id = layout::id_cells(Density::Fm, [0, 0, index as u8 + 1, 0]);
-        let field = layout::field_cells(Density::Fm, 0xFB, &[0xFF; 128]);
+        let field = layout::field_cells(Density::Fm, mark, &[0xFF; 128]);
         let crc = [field[129], field[130] ^ u16::from(!good)];
         lines.push(cells_line(place, &id));
         lines.push(cells_line(place + 20, &field[..1]));
         lines.push(cells_line(place + 20 + 129, &crc));
     }
+    lines
+}
+
+/// Lines that lay such sectors and read them with this command; nobody serves it.
+fn marked_reads(byte: u8, mark: u8, good: &[bool]) -> Vec<String> {
+    let mut lines = sectors(mark, good);
     lines.push(format!("W 0 {:X}", byte));
     lines.extend(vec!["B".to_string(); 100 + 200 * good.len()]);
     lines
 }
 
+fn reads(byte: u8, good: &[bool]) -> Vec<String> {
+    marked_reads(byte, 0xFB, good)
+}
+
+/// The same for lines that were made.
+fn made_show(lines: &[String], says: &str, does: &str) -> bool {
+    let lines: Vec<&str> = lines.iter().map(String::as_str).collect();
+    shows(&lines, says, does)
+}
+
 #[test]
 fn a_broken_record_is_shown_where_m_reads_it() {
-    let passes = |lines: Vec<String>, does| {
-        let lines: Vec<&str> = lines.iter().map(String::as_str).collect();
-        shows(&lines, "A bad data CRC ends", does)
-    };
+    let passes = |lines: Vec<String>, does| made_show(&lines, "A bad data CRC ends", does);
     assert!(passes(reads(0x90, &[false]), "it goes on"));
     assert!(!passes(reads(0x80, &[false]), "it goes on"));
     assert!(!passes(reads(0x90, &[true]), "it goes on"));
@@ -179,6 +191,136 @@ fn a_broken_record_is_shown_where_m_reads_it() {
     assert!(!passes(reads(0x90, &[false, true]), later));
     assert!(!passes(reads(0x90, &[true, false]), first));
     assert!(passes(reads(0x90, &[true, false]), later));
+}
+
+#[test]
+fn an_old_mark_is_shown_where_it_is_met() {
+    let says = "In FM only, flagged F9 and FA become data marks";
+    let met = |cells: &str, byte: &str, does| {
+        let (cells, command) = (format!("C 74 {}", cells), format!("W 0 {}", byte));
+        shows(&[&cells, &command, "G FFFF"], says, does)
+    };
+    assert!(met("1F9", "80", "F9 does not"));
+    assert!(!met("1FA", "80", "F9 does not"));
+    assert!(!met("1FB", "80", "F9 does not"));
+    assert!(!met("F9", "80", "F9 does not"));
+    assert!(met("F9", "80", "plain F9 too"));
+    assert!(!met("1F9", "80", "plain F9 too"));
+    assert!(met("1FA", "90", "not with m"));
+    assert!(!met("1FA", "80", "not with m"));
+    assert!(met("1FC", "80", "FC too"));
+    assert!(!met("1FD", "80", "FC too"));
+}
+
+#[test]
+fn an_old_mark_of_mfm_is_shown_where_it_is_passed_over() {
+    let says = "In FM only, flagged F9 and FA become data marks";
+    let met = |mark: &str, does| {
+        let id = cells_line(100, &layout::id_cells(Density::Mfm, [0, 0, 1, 0]));
+        let scene = format!("P 1 800\nN 9\n{}\n", id);
+        let cells = format!("C 78 1A1 1A1 1A1 {}", mark);
+        scene_shows(&scene, &[&cells, "W 0 80", "G FFFF"], says, does)
+    };
+    assert!(met("F9", "F9 in MFM too"));
+    assert!(!met("F9", "FA in MFM too"));
+    assert!(met("FA", "FA in MFM too"));
+    assert!(met("FA", "they end it in MFM"));
+    assert!(!met("FC", "they end it in MFM"));
+    assert!(!met("FB", "F9 in MFM too"));
+    assert!(!met("FB", "they end it in MFM"));
+}
+
+#[test]
+fn the_window_of_an_old_mark_is_shown_at_its_end() {
+    let met = |place: usize, cell: u16, does| {
+        let cells = cells_line(106 + place, &[cell]);
+        shows(
+            &[&cells, "W 0 80", "G FFFF"],
+            "Window and bounds stay",
+            does,
+        )
+    };
+    assert!(met(30, 0x1F9, "29 for F9 or FA"));
+    assert!(!met(29, 0x1F9, "29 for F9 or FA"));
+    assert!(!met(30, 0x1FB, "29 for F9 or FA"));
+    assert!(met(31, 0x1FA, "31 for F9 or FA"));
+    assert!(!met(30, 0x1FA, "31 for F9 or FA"));
+    assert!(!met(32, 0x1FA, "31 for F9 or FA"));
+    assert!(!met(31, 0x1FB, "31 for F9 or FA"));
+}
+
+#[test]
+fn which_mark_is_first_is_shown_where_there_are_two() {
+    let met = |cells: &str, does| {
+        let cells = format!("C 74 {}", cells);
+        shows(
+            &[&cells, "W 0 80", "G FFFF"],
+            "Only the first data mark",
+            does,
+        )
+    };
+    let (new, old) = ("FB or F8 after F9 or FA is", "F9 or FA after FB or F8 is");
+    assert!(met("1F9 FF 1FB", new));
+    assert!(!met("1F9 FF 1FA", new));
+    assert!(!met("1F9", new));
+    assert!(!met("1FB FF 1F9", new));
+    assert!(met("1FB FF 1F9", old));
+    assert!(!met("1FB FF 1F8", old));
+    assert!(!met("1F9 FF 1FB", old));
+}
+
+#[test]
+fn bit_5_and_the_crc_of_an_old_mark_are_shown_at_the_end_of_its_record() {
+    let read = |mark, good, says, does| made_show(&marked_reads(0x80, mark, &[good]), says, does);
+    let counts = |mark, good, does| read(mark, good, "F9 counts as deleted", does);
+    assert!(counts(0xF9, true, "F9 as normal"));
+    assert!(counts(0xF9, false, "F9 as normal"));
+    assert!(!counts(0xF8, true, "F9 as normal"));
+    assert!(counts(0xFA, true, "FA as deleted"));
+    assert!(!counts(0xFB, true, "FA as deleted"));
+    let starts = |mark, good, does| read(mark, good, "FM: a mark is one flagged cell", does);
+    assert!(starts(0xF9, true, "with F8 for F9"));
+    assert!(!starts(0xF9, false, "with F8 for F9"));
+    assert!(!starts(0xF8, true, "with F8 for F9"));
+    assert!(starts(0xFA, true, "with FB for FA"));
+    assert!(starts(0xFA, false, "any will do for F9 or FA"));
+    assert!(!starts(0xFA, true, "any will do for F9 or FA"));
+    assert!(!starts(0xFB, false, "any will do for F9 or FA"));
+}
+
+#[test]
+fn a_written_mark_is_shown_where_it_is_looked_at() {
+    let writes = |byte: &str, before: &[&str], does| {
+        let command = format!("W 0 {}", byte);
+        let served = [&command, "G FFFF", "W 3 0", "G FFFF", "V 7C 1"];
+        shows(&[before, &served].concat(), "Write Sector still", does)
+    };
+    assert!(writes("A1", &[], "F9 for F8 (FM)"));
+    assert!(!writes("A0", &[], "F9 for F8 (FM)"));
+    assert!(!writes("A1", &[], "F9 for F8 (MFM)"));
+    assert!(writes("A0", &[], "FA for FB (FM)"));
+    assert!(writes("A0", &["C 7C 1F9"], "F9 or FA where it stands"));
+    assert!(!writes("A0", &["C 7C 1F8"], "F9 or FA where it stands"));
+    assert!(!writes("A0", &["C 7B 1F9"], "F9 or FA where it stands"));
+}
+
+#[test]
+fn a_wrong_viewer_is_shown_where_it_looks() {
+    let says = "What finds a data mark must say";
+    let views = |mark, good, line: &str, does| {
+        let mut lines = sectors(mark, &[good]);
+        lines.push(line.to_string());
+        made_show(&lines, says, does)
+    };
+    assert!(views(0xF9, true, "Q 0 0 1", "F9 is none"));
+    assert!(!views(0xF9, true, "U", "F9 is none"));
+    assert!(!views(0xF9, false, "Q 0 0 1", "F9 is none"));
+    assert!(!views(0xF9, true, "Q 1 0 1", "F9 is none"));
+    assert!(!views(0xF9, true, "Q 0 0 2", "F9 is none"));
+    assert!(!views(0xFA, true, "Q 0 0 1", "F9 is none"));
+    assert!(views(0xFA, true, "Q 0 0 1", "FA is none"));
+    assert!(views(0xFA, true, "Q 0 0 1", "CRC with FB for FA"));
+    assert!(!views(0xFB, true, "Q 0 0 1", "CRC with FB for FA"));
 }
 
 #[test]
@@ -198,7 +340,7 @@ fn no_row_stands_twice() {
 
 /// What the bench prints, as the desk gives it.
 fn printed(text: String) -> Printed {
-    if !text.contains('|') {
+    if !text.contains('|') && !text.starts_with('Q') {
         return Printed::Text(text);
     }
     let words = text[1..].split([' ', '|']).filter(|word| !word.is_empty());

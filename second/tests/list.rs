@@ -1,6 +1,8 @@
 // Pictures and the list program: document 01's example, one test for each rule, and the inputs.
 
-use second::density::Density::{Fm, Mfm};
+use second::data_mark::DataMark;
+use second::density::Density::{self, Fm, Mfm};
+use second::field;
 use second::layout;
 use second::list;
 use second::number;
@@ -171,7 +173,7 @@ fn ids_are_listed_by_their_fe_round_the_ring() {
 fn a_data_mark_may_stand_over_the_ring_end() {
     let mut cells = empty_cells(MFM_KIND);
     layout::put(&mut cells, 6230, &layout::id_cells(Mfm, [1, 0, 2, 3]));
-    layout::put(&mut cells, 6248, &second::field::mark_cells(Mfm, 0xF8));
+    layout::put(&mut cells, 6248, &field::mark_cells(Mfm, 0xF8));
     assert_eq!(
         listed(MFM_KIND, &cells),
         "M 00 0\n6233 01 00 02 03 good F8\nids 1\n"
@@ -202,12 +204,104 @@ fn the_data_mark_must_be_in_its_window() {
     }
 }
 
+/// What the list prints as the data mark of an ID whose last cell is 46, where these marks stand: for
+/// each its byte, and how many cells its byte is after the ID.
+fn listed_mark(density: Density, marks: &[(u8, usize)]) -> String {
+    let kind = Kind { density };
+    let mut cells = empty_cells(kind);
+    let id = layout::id_cells(density, [1, 0, 2, 3]);
+    layout::put(&mut cells, 47 - id.len(), &id);
+    for &(mark, place) in marks {
+        let mark = field::mark_cells(density, mark);
+        layout::put(&mut cells, 47 + place - mark.len(), &mark);
+    }
+    let text = listed(kind, &cells);
+    let line = text.lines().nth(1).expect("the line of the ID");
+    let words: Vec<&str> = line.split(' ').collect();
+    assert_eq!(words[..6], ["40", "01", "00", "02", "03", "good"]);
+    words[6].to_string()
+}
+
+#[test]
+fn of_all_marks_the_list_prints_the_data_marks_of_the_density() {
+    for byte in 0..=255 {
+        let name = format!("{:02X}", byte);
+        let (fm, mfm) = (matches!(byte, 0xF8..=0xFB), matches!(byte, 0xF8 | 0xFB));
+        for (density, is_data_mark) in [(Fm, fm), (Mfm, mfm)] {
+            let expected = if is_data_mark { &name } else { "none" };
+            assert_eq!(listed_mark(density, &[(byte, 20)]), expected);
+        }
+    }
+}
+
+#[test]
+fn in_fm_each_data_mark_must_be_in_its_window() {
+    for mark in DataMark::ALL.map(DataMark::byte) {
+        let name = format!("{:02X}", mark);
+        assert_eq!(listed_mark(Fm, &[(mark, 30)]), name);
+        assert_eq!(listed_mark(Fm, &[(mark, 31)]), "none");
+    }
+}
+
+#[test]
+fn the_first_data_mark_of_the_window_is_printed() {
+    for first in DataMark::ALL.map(DataMark::byte) {
+        for second in DataMark::ALL.map(DataMark::byte) {
+            let marks = [(first, 8), (second, 16)];
+            assert_eq!(listed_mark(Fm, &marks), format!("{:02X}", first));
+        }
+    }
+}
+
+#[test]
+fn in_mfm_f9_and_fa_are_passed_over() {
+    for other in [0xF9, 0xFA] {
+        for (mark, name) in [(0xF8, "F8"), (0xFB, "FB")] {
+            assert_eq!(listed_mark(Mfm, &[(other, 8), (mark, 43)]), name);
+            assert_eq!(listed_mark(Mfm, &[(other, 8), (mark, 44)]), "none");
+        }
+    }
+}
+
+#[test]
+fn in_fm_a_data_mark_is_flagged() {
+    for mark in DataMark::ALL {
+        let mut cells = empty_cells(FM_KIND);
+        layout::put(&mut cells, 40, &layout::id_cells(Fm, [1, 0, 2, 3]));
+        cells[60] = u16::from(mark.byte());
+        let expected = "F 00 0\n40 01 00 02 03 good none\nids 1\n";
+        assert_eq!(listed(FM_KIND, &cells), expected);
+    }
+}
+
 #[test]
 fn a_flagged_cell_among_the_six_makes_it_no_id() {
     let mut cells = empty_cells(FM_KIND);
     layout::put(&mut cells, 40, &layout::id_cells(Fm, [1, 0, 2, 3]));
     cells[46] += 256;
     assert_eq!(listed(FM_KIND, &cells), "F 00 0\nids 0\n");
+}
+
+/// The cells of the MFM pictures with which inputs begin.
+fn mfm_inputs() -> Vec<Vec<u16>> {
+    let mut cells = empty_cells(MFM_KIND);
+    let inputs = (0..150).map(pictures::input);
+    let mfm = inputs.filter(|bytes| bytes.first() == Some(&MFM_KIND.byte()));
+    mfm.filter_map(|bytes| {
+        let taken = picture::read(&bytes, &mut cells).number == number::DONE;
+        Some(cells.clone()).filter(|_| taken)
+    })
+    .collect()
+}
+
+#[test]
+fn the_inputs_hold_every_data_mark_in_mfm_too() {
+    let inputs = mfm_inputs();
+    for mark in DataMark::ALL {
+        let mark = field::mark_cells(Mfm, mark.byte());
+        let holds = |cells: &&Vec<u16>| cells.windows(4).any(|four| four == mark);
+        assert!(inputs.iter().filter(holds).count() > 10);
+    }
 }
 
 #[test]
@@ -221,11 +315,15 @@ fn the_inputs_meet_every_answer() {
         "refused 10\n",
         "F ",
         "M ",
-        " good FB\n",
         " good F8\n",
+        " good F9\n",
+        " good FA\n",
+        " good FB\n",
         " good none\n",
-        " bad FB\n",
         " bad F8\n",
+        " bad F9\n",
+        " bad FA\n",
+        " bad FB\n",
         " bad none\n",
     ];
     for piece in wanted {

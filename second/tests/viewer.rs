@@ -1,7 +1,9 @@
 // The viewer: what it finds, in which order, and its refusals.
 
 use second::bench;
+use second::data_mark::DataMark;
 use second::density::Density::{self, Fm, Mfm};
+use second::field::{self, FLAG};
 use second::layout;
 use second::number;
 use second::viewer::{self, View, Wanted};
@@ -22,7 +24,7 @@ fn put_sector(
     mark_at: usize,
 ) -> usize {
     let id = layout::id_cells(density, [3, 9, 5, 0]);
-    let marks = second::field::mark_length(density);
+    let marks = field::mark_length(density);
     let field = layout::field_cells(density, 0xFB, &[byte; 128]);
     layout::put(cells, place, &id);
     let start = place + id.len() + mark_at - marks;
@@ -79,7 +81,7 @@ fn a_bad_id_or_data_crc_is_passed_over() {
         for spoilt in [105, 300] {
             let mut cells = empty_side(density);
             put_sector(&mut cells, density, 100, 0x11, 20);
-            let id_byte = 100 + second::field::mark_length(density);
+            let id_byte = 100 + field::mark_length(density);
             let data = put_sector(&mut cells, density, 100, 0x11, 20);
             let place = if spoilt == 105 {
                 id_byte + 1
@@ -114,8 +116,8 @@ fn only_the_first_data_mark_counts() {
     for density in BOTH {
         let mut cells = empty_side(density);
         put_sector(&mut cells, density, 100, 0x61, 20);
-        let place = 100 + second::field::id_length(density) + 2;
-        layout::put(&mut cells, place, &second::field::mark_cells(density, 0xF8));
+        let place = 100 + field::id_length(density) + 2;
+        layout::put(&mut cells, place, &field::mark_cells(density, 0xF8));
         assert_empty(
             find(&cells, &empty_side(density), density),
             number::NO_SECTOR,
@@ -126,9 +128,9 @@ fn only_the_first_data_mark_counts() {
 #[test]
 fn nothing_may_stand_past_the_last_cell() {
     for density in BOTH {
-        let field = second::field::mark_length(density) + 128 + 2;
-        let sector = second::field::id_length(density) + 10 + field;
-        let mark_at = 10 + second::field::mark_length(density);
+        let field = field::mark_length(density) + 128 + 2;
+        let sector = field::id_length(density) + 10 + field;
+        let mark_at = 10 + field::mark_length(density);
         for (place, expected) in [
             (2048 - sector, number::DONE),
             (2049 - sector, number::NO_SECTOR),
@@ -156,6 +158,96 @@ fn deleted_records_are_found_too() {
     layout::put(&mut cells, 10, &layout::id_cells(Mfm, [3, 0, 5, 1]));
     layout::put(&mut cells, 30, &layout::field_cells(Mfm, 0xF8, &[7; 256]));
     assert_eq!(find(&cells, &empty_side(Mfm), Mfm).cells, [7; 256]);
+}
+
+/// Sector 5 of track 3 with 128 bytes 61, its mark byte so many cells after the ID.
+fn side_with_mark(density: Density, mark: u8, mark_at: usize) -> Vec<u16> {
+    let mut cells = empty_side(density);
+    let id = layout::id_cells(density, [3, 0, 5, 0]);
+    layout::put(&mut cells, 100, &id);
+    let place = 100 + id.len() + mark_at - field::mark_length(density);
+    layout::put(
+        &mut cells,
+        place,
+        &layout::field_cells(density, mark, &[0x61; 128]),
+    );
+    cells
+}
+
+/// The number and the cells that the viewer gives for a side.
+fn viewed(cells: &[u16], density: Density) -> (u8, Vec<u16>) {
+    let empty = empty_side(density);
+    let [first, second] = [find(cells, &empty, density), find(&empty, cells, density)];
+    assert_eq!((first.number, first.cells), (second.number, second.cells));
+    (first.number, first.cells.to_vec())
+}
+
+#[test]
+fn of_all_marks_those_of_the_density_begin_a_record() {
+    let fm = &[0xF8, 0xF9, 0xFA, 0xFB][..];
+    for (density, data_marks) in [(Fm, fm), (Mfm, &[0xF8, 0xFB])] {
+        for byte in 0..=255 {
+            let (number, cells) = viewed(&side_with_mark(density, byte, 20), density);
+            if data_marks.contains(&byte) {
+                assert_eq!((number, cells), (number::DONE, vec![0x61; 128]));
+            } else {
+                assert_eq!((number, cells), (number::NO_SECTOR, Vec::new()));
+            }
+        }
+    }
+}
+
+#[test]
+fn in_fm_each_data_mark_must_be_in_its_window() {
+    for mark in DataMark::ALL.map(DataMark::byte) {
+        let at_end = side_with_mark(Fm, mark, 30);
+        assert_eq!(viewed(&at_end, Fm).0, number::DONE);
+        let past_end = side_with_mark(Fm, mark, 31);
+        assert_eq!(viewed(&past_end, Fm).0, number::NO_SECTOR);
+    }
+}
+
+#[test]
+fn the_data_crc_starts_with_the_mark_met() {
+    for density in BOTH {
+        for mark in DataMark::of_density(density) {
+            for under_crc in DataMark::ALL {
+                let mut cells = side_with_mark(density, under_crc.byte(), 20);
+                let place = 100 + field::id_length(density) + 20 - 1;
+                cells[place] = cells[place] / FLAG * FLAG + u16::from(mark.byte());
+                let found = viewed(&cells, density).0 == number::DONE;
+                assert_eq!(found, *mark == under_crc);
+            }
+        }
+    }
+}
+
+#[test]
+fn in_fm_the_first_of_the_four_counts() {
+    for first in DataMark::ALL.map(DataMark::byte) {
+        for second in DataMark::ALL.map(DataMark::byte) {
+            let mut cells = side_with_mark(Fm, second, 20);
+            cells[107 + 4] = FLAG + u16::from(first);
+            assert_eq!(viewed(&cells, Fm).0, number::NO_SECTOR);
+            let mut data = [0x61; 128];
+            data[7] = second;
+            let field = layout::field_cells(Fm, first, &data);
+            layout::put(&mut cells, 107 + 4, &field);
+            cells[107 + 5 + 7] += FLAG;
+            assert_eq!(viewed(&cells, Fm).1, cells[107 + 5..107 + 5 + 128]);
+        }
+    }
+}
+
+#[test]
+fn in_mfm_f9_and_fa_are_passed_over_for_what_follows() {
+    for other in [0xF9, 0xFA] {
+        for mark in [0xF8, 0xFB] {
+            let mut cells = side_with_mark(Mfm, mark, 43);
+            layout::put(&mut cells, 110 + 8, &field::mark_cells(Mfm, other));
+            assert_eq!(viewed(&cells, Mfm), (number::DONE, vec![0x61; 128]));
+        }
+    }
 }
 
 #[test]

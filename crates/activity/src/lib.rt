@@ -51,7 +51,7 @@ pub enum Activity {
     Search(u8, Scan),
     // For a data mark: cells of its field, cells passed after the ID, flagged A1 cells last in a row.
     Window(u16, u8, u8),
-    // Cells left of the data field, the register, and whether its mark was the deleted one.
+    // Cells left of the data field, the register, and whether its mark counts as deleted.
     Data(u16, u16, bool),
     // For an ID mark: index pulses seen, flagged A1 cells last in a row.
     Hunt(u8, u8),

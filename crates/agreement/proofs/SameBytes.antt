@@ -16,7 +16,7 @@ use Rattle.common.proofs.Cases.{never}
 use Rattle.crc.specs.Crc.{crcBit, crcBits, crcByte, crcOver}
 use Rattle.scan.specs.Rows.{lengthWithin}
 use Rattle.scan.specs.Marks.{byteOf, leadOf, carriesMark, syncRun, markStep, markBytes, markCrc}
-use Rattle.scan.specs.DataMarks.{markByte, dataMarkOf, dataMarkIn, dataMarkStep, windowOf}
+use Rattle.scan.specs.DataMarks.{markByte, densityHas, dataMarkOf, dataMarkIn, dataMarkStep, windowOf}
 use Rattle.scan.specs.Ids.{idBegun, pushedOf, wholeOf, idByteStep, runIn, idCellStep, idMarkStep, idStep}
 use Rattle.scan.specs.Streams.{MarkAt}
 use Rattle.command.specs.Sizes.{sizeOf}
@@ -91,7 +91,7 @@ at-zero ring = by (ring .cell) (ring .inside) (ring .stands .mark .1) (decLt 0 (
 finds : placeIn scene track track ≡ Zero 25 153
 unfolding placeOf viewRefusal firstPlace cellsWithin lengthWithin spanOn spanAmong orElse spanIn wantedOf spanBehind spanMarked
     spanFrom registerOver nextId heardIn foundBy markBehind soughtIn metBy cellsOf idStep idMarkStep idCellStep runIn
-    idByteStep wholeOf pushedOf idBegun markStep leadOf carriesMark syncRun markCrc markBytes dataMarkStep dataMarkIn dataMarkOf
+    idByteStep wholeOf pushedOf idBegun markStep leadOf carriesMark syncRun markCrc markBytes dataMarkStep dataMarkIn dataMarkOf densityHas
     markByte windowOf crcOver crcByte crcBits crcBit sizeOf powerOn freshMachine
 finds = refl
 

@@ -1,30 +1,23 @@
 -- What the viewer takes for the data field of a sector is one that a Read Sector meets after the ID: the same mark, the same
 -- cells, the CRC good. Assumes nothing.
-use mathlib.Core.Path.{_≡_, refl, sym, ap, _∙_}
+use mathlib.Core.Path.{_≡_, sym, ap, _∙_}
 use mathlib.Core.Bool.{Bool}
 use mathlib.Core.List.{List}
 use Prim.Native.Nat.{ℕ, suc, _+_, _-_, _<_}
 use native.Mathlib.Nat.{mod-eq-of-lt}
 use native.Mathlib.Omega.{arith}
-use lib.Dec.{eqb}
 use lib.ListN.{getD}
 use Rattle.scan.specs.Marks.{byteOf, leadOf, markCrc}
 use Rattle.scan.specs.DataMarks.{markByte, isDeleted}
 use Rattle.scan.specs.Streams.{idWidth, crcFrom}
-use Rattle.scan.specs.declared.DataMark.{DataMark}
-use Rattle.scan.specs.declared.DataMark.the-variants.{Fb, F8}
 use Rattle.scan.proofs.Marks.{mark-last-byte}
 use Rattle.fields.specs.Rings.{cellsOf}
 use Rattle.fields.specs.Rounds.{FirstMark}
 use Rattle.viewer.specs.Plain.{SectorAt}
-use Rattle.hosts.proofs.DataFields.{sumAfter}
+use Rattle.hosts.specs.Scenes.{countsDeleted}
+use Rattle.hosts.proofs.DataFields.{sumAfter, deleted-byte}
 use Rattle.hosts.proofs.FirstMarks.{stands-first, field-register}
 use Rattle.hosts.proofs.ReadThrough.{FieldIn}
-
-deleted-byte : (mark : DataMark) → isDeleted mark ≡ eqb (markByte mark) 0xF8
-unfolding isDeleted markByte
-deleted-byte Fb = refl
-deleted-byte F8 = refl
 
 module _ (mfm : Bool) (row : List ℕ) (track number p from to : ℕ) (sector : SectorAt mfm row track number p from to) where
   abbrev first : FirstMark mfm (cellsOf row) (p + idWidth mfm) (sector .mark) (sector .at) (sector .cell)
@@ -35,12 +28,12 @@ module _ (mfm : Bool) (row : List ℕ) (track number p from to : ℕ) (sector : 
   unfolding cellsOf
   in-row k l = ap (λ (x : ℕ). getD row x 0) (mod-eq-of-lt (omega (arith, sector .inside)))
 
-  -- "bit 5 on if F8": the cell before the data cells is the mark's
-  pub deleted-told : isDeleted (sector .mark) ≡ eqb (byteOf (getD row (from - 1) 0)) 0xF8
+  -- the cell before the data cells is the mark's
+  pub deleted-told : isDeleted (sector .mark) ≡ countsDeleted (byteOf (getD row (from - 1) 0))
   deleted-told =
       let e : from - 1 ≡ sector .at + leadOf mfm = omega (arith, first .within .byte, sector .begins) in
       deleted-byte (sector .mark)
-      ∙ ap (λ (b : ℕ). eqb b 0xF8)
+      ∙ ap countsDeleted
       (sym
       (ap byteOf (sym (in-row (from - 1) (omega (arith, sector .ends))) ∙ ap (cellsOf row) e)
       ∙ mark-last-byte mfm (cellsOf row) (sector .at) (markByte (sector .mark)) (first .within .stands)))

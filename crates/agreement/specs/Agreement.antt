@@ -4,7 +4,6 @@ use mathlib.Core.Path.{_≡_}
 use mathlib.Core.Bool.{true, false, not}
 use mathlib.Core.List.{List, map}
 use Prim.Native.Nat.{ℕ, suc, _+_, _-_, _≤_, _<_}
-use lib.Dec.{eqb}
 use lib.ListN.{getD}
 use Rattle.scan.specs.Marks.{byteOf}
 use Rattle.scan.specs.Streams.{idFrom}
@@ -23,7 +22,7 @@ use Rattle.wd.specs.Reads.{statusOf}
 use Rattle.wd.specs.Loads.{loadRegister}
 use Rattle.fields.specs.Rings.{cellsOf}
 use Rattle.hosts.specs.Hosts.{at, EndsAt, Undisturbed}
-use Rattle.hosts.specs.Scenes.{Scene, loaded, SideSuits}
+use Rattle.hosts.specs.Scenes.{Scene, loaded, SideSuits, countsDeleted}
 use Rattle.hosts.specs.Bytes.{handed, LateAt}
 use Rattle.in_time.specs.Demand3.{OnRing}
 
@@ -90,12 +89,12 @@ pub record Agrees (s : Scene) (s0 s1 : List ℕ) (from to n : ℕ) : Type 0 wher
   -- each in its own byte time
   pub each : (r : ℕ) × CellByCell s from to n r
   -- neither Record Not Found nor a CRC error: the status byte, under any lines, has no bits but Not Ready, the mark, Lost
-  -- Data and DRQ; "bit 5 on if F8", which is the byte before the data cells
+  -- Data and DRQ; the mark's byte is the one before the data cells
   pub status :
       (l : Lines)
       → statusOf (readBy s n) l .byte
       ≡ bitFor (not (l .ready)) 0x80
-      + bitFor (eqb (byteOf (getD (s .row) (from - 1) 0)) 0xF8) 0x20
+      + bitFor (countsDeleted (byteOf (getD (s .row) (from - 1) 0))) 0x20
       + bitFor (readBy s n .flags .lost) 0x04
       + bitFor (readBy s n .wires .drq) 0x02
   -- and Lost Data only where the host was late

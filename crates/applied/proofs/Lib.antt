@@ -10,6 +10,7 @@ pub mod OneId
 pub mod Window
 pub mod ReadSectors
 pub mod Broken
+pub mod OldMarks
 pub mod AllCalls
 pub mod LeavesDr
 pub mod Unread

@@ -1,10 +1,10 @@
--- FM tracks with one ID, whose data mark is the last cell of its window or the one after it, as demand 3 speaks of them.
+-- Tracks with one ID, as demand 3 speaks of them; in FM, with a data mark that is the last cell of its window or the one after it.
 -- Assumes nothing.
-use mathlib.Core.Path.{refl}
-use mathlib.Core.Bool.{true, false}
+use mathlib.Core.Path.{_≡_, refl}
+use mathlib.Core.Bool.{Bool, true, false}
 use mathlib.Core.List.{List}
 use mathlib.Core.Logic.{_⊎_, inl, inr}
-use Prim.Native.Nat.{ℕ, _≤_, _<_}
+use Prim.Native.Nat.{ℕ, _+_, _<_}
 use native.Mathlib.Decide.{decLt}
 use native.Mathlib.Omega.{arith}
 use lib.ListN.{length}
@@ -21,7 +21,7 @@ use Rattle.wd.specs.Machines.{freshMachine, powerOn}
 use Rattle.reachable.specs.ByteTimes.{turnsOn}
 use Rattle.hosts.specs.Scenes.{Scene, Suits}
 use Rattle.hosts.specs.Tracks.{passing}
-use Rattle.in_time.specs.Demand3.{streamOf, OnRing, FirstWhole, windowCells, MarkInWindow}
+use Rattle.in_time.specs.Demand3.{streamOf, OnRing, FirstWhole, windowCells, fb, MarkInWindow}
 use Rattle.command.specs.declared.Chip.the-variants.{Wd1793}
 use Rattle.in_time.proofs.Scenes.{fresh}
 use Rattle.witnesses.proofs.Scenes.{unmarked, id-at}
@@ -32,71 +32,78 @@ use Rattle.applied.specs.Window.{thirtieth, thirtyFirst}
 abbrev pub Unserved : Scene → Type 0
 Unserved s = (OnRing s → ⊥) ⊎ ((k : ℕ) × FirstWhole s k × (MarkInWindow s k → ⊥))
 
+-- there is something where the first ID has a data mark in its window
+pub served : (s : Scene) (q : ℕ) → OnRing s → FirstWhole s q → MarkInWindow s q → Unserved s → ⊥
+served s q ring first mark (inl nowhere) = nowhere ring
+served s q ring first mark (inr (k, other, none)) = by (decLt k q) (decLt q k)
+  where
+    by : Dec (k < q) → Dec (q < k) → ⊥
+    by (yes early) l = first .first k early (other .id) (other .ends) (other .suits)
+    by (no l) (yes late) = other .first q late (first .id) (first .ends) (first .suits)
+    by (no l) (no h) = let same : k ≡ q = omega arith in none (rw same mark)
+
 abbrev the-id : Id
 the-id = record { track = 0; side = 0; sector = 1; length = 0; good = true }
 
 module _ (l : Lines) where
-  abbrev pub scene : List ℕ → Scene
-  scene row = record { machine = fresh false Wd1793; lines = l; byte = 0x80; row = row; host = silent }
+  abbrev pub scene : Bool → List ℕ → Scene
+  scene mfm row = record { machine = fresh mfm Wd1793; lines = l; byte = 0x80; row = row; host = silent }
 
-  suits : (row : List ℕ) → Suits (scene row) the-id
+  pub suits : (mfm : Bool) (row : List ℕ) → Suits (scene mfm row) (record { track = 0; side = 0; sector = 1; length = 0; good = true })
   unfolding bitOf powerOn lengthWithin freshMachine
-  suits row = record { track = refl; sector = refl; side = λ asks. never (cc); good = refl }
+  suits mfm row = record { track = refl; sector = refl; side = λ asks. never (cc); good = refl }
 
-  -- no ID is whole before cell 6
-  whole-at : (row : List ℕ) → IdEnds false (streamOf (scene row)) 6 the-id → FirstWhole (scene row) 6
-  unfolding leadOf powerOn lengthWithin freshMachine
-  whole-at row ends =
+  -- no ID is whole before the last cell of one that stands from cell 0 on
+  pub whole-at :
+      (mfm : Bool) (row : List ℕ)
+      → IdEnds mfm (streamOf (scene mfm row)) (leadOf mfm + 6) (record { track = 0; side = 0; sector = 1; length = 0; good = true })
+      → FirstWhole (scene mfm row) (leadOf mfm + 6)
+  unfolding powerOn lengthWithin freshMachine
+  whole-at mfm row ends =
       record {
         id = the-id;
         ends = ends;
-        suits = suits row;
+        suits = suits mfm row;
         first = λ k low other (a, p, stands, says) matches. absurd (omega arith);
       }
 
-  first-30 : FirstWhole (scene thirtieth) 6
+  first-30 : FirstWhole (scene false thirtieth) 6
   unfolding leadOf idFrom crcFrom crcByte crcBits crcBit passing cellsOf bitOf turnsOn powerOn lengthWithin freshMachine
-  first-30 = whole-at thirtieth (0, refl, id-at (streamOf (scene thirtieth)) 0 refl refl, refl)
+  first-30 = whole-at false thirtieth (0, refl, id-at (streamOf (scene false thirtieth)) 0 refl refl, refl)
 
-  first-31 : FirstWhole (scene thirtyFirst) 6
+  first-31 : FirstWhole (scene false thirtyFirst) 6
   unfolding leadOf idFrom crcFrom crcByte crcBits crcBit passing cellsOf bitOf turnsOn powerOn lengthWithin freshMachine
-  first-31 = whole-at thirtyFirst (0, refl, id-at (streamOf (scene thirtyFirst)) 0 refl refl, refl)
+  first-31 = whole-at false thirtyFirst (0, refl, id-at (streamOf (scene false thirtyFirst)) 0 refl refl, refl)
 
-  pub ring-30 : OnRing (scene thirtieth)
+  pub ring-30 : OnRing (scene false thirtieth)
   unfolding leadOf idFrom crcFrom crcByte crcBits crcBit cellsOf powerOn lengthWithin freshMachine
   ring-30 =
-      record { cell = 0; inside = omega arith; stands = id-at (cellsOf thirtieth) 0 refl refl; suits = suits thirtieth }
+      record { cell = 0; inside = omega arith; stands = id-at (cellsOf thirtieth) 0 refl refl; suits = suits false thirtieth }
 
-  pub ring-31 : OnRing (scene thirtyFirst)
+  pub ring-31 : OnRing (scene false thirtyFirst)
   unfolding leadOf idFrom crcFrom crcByte crcBits crcBit cellsOf powerOn lengthWithin freshMachine
   ring-31 =
-      record { cell = 0; inside = omega arith; stands = id-at (cellsOf thirtyFirst) 0 refl refl; suits = suits thirtyFirst }
+      record { cell = 0; inside = omega arith; stands = id-at (cellsOf thirtyFirst) 0 refl refl; suits = suits false thirtyFirst }
 
-  mark-30 : (k : ℕ) → 6 ≤ k → k ≤ 6 → MarkInWindow (scene thirtieth) k
+  mark-30 : MarkInWindow (scene false thirtieth) 6
   unfolding MarkAt leadOf windowCells passing cellsOf bitOf turnsOn powerOn lengthWithin freshMachine
-  mark-30 k low high =
+  mark-30 =
       record {
         a = 36;
         byte = 0xFB;
-        data-mark = inl refl;
+        data-mark = fb refl;
         stands = (omega arith, refl);
         after = omega arith;
         within = omega arith;
       }
 
-  no-mark-31 : MarkInWindow (scene thirtyFirst) 6 → ⊥
+  no-mark-31 : MarkInWindow (scene false thirtyFirst) 6 → ⊥
   unfolding leadOf windowCells passing cellsOf bitOf turnsOn powerOn lengthWithin freshMachine
   no-mark-31 m =
-      unmarked (streamOf (scene thirtyFirst)) 7 30 refl (m .a) (m .byte) (m .after) (omega (arith, m .within)) (m .stands)
+      unmarked (streamOf (scene false thirtyFirst)) 7 30 refl (m .a) (m .byte) (m .after) (omega (arith, m .within)) (m .stands)
 
-  pub served-30 : Unserved (scene thirtieth) → ⊥
-  unfolding leadOf powerOn lengthWithin freshMachine
-  served-30 (inl nowhere) = nowhere ring-30
-  served-30 (inr (k, first, none)) = by (decLt 6 k) (first .ends)
-    where
-      by : Dec (6 < k) → IdEnds (fresh false Wd1793 .mfm) (streamOf (scene thirtieth)) k (first .id) → ⊥
-      by (yes late) ends = first .first 6 late (first-30 .id) (first-30 .ends) (first-30 .suits)
-      by (no early) (a, p, stands, says) = none (mark-30 k (omega arith) (omega arith))
+  pub served-30 : Unserved (scene false thirtieth) → ⊥
+  served-30 = served (scene false thirtieth) 6 ring-30 first-30 mark-30
 
-  pub unserved-31 : Unserved (scene thirtyFirst)
+  pub unserved-31 : Unserved (scene false thirtyFirst)
   unserved-31 = inr (6, first-31, no-mark-31)

@@ -1,6 +1,6 @@
--- Demand 3 over FM tracks with one ID, from `demand-3` alone. Assumes nothing.
+-- Demand 3 over tracks with one ID, from `demand-3` alone. Assumes nothing.
 use mathlib.Core.Path.{_≡_, refl, sym, ap, _∙_, subst}
-use mathlib.Core.Bool.{true, false, not-eq-not}
+use mathlib.Core.Bool.{Bool, true, false, not-eq-not}
 use mathlib.Core.List.{List}
 use Prim.Native.Nat.{ℕ, _+_, _≤_}
 use native.Mathlib.Omega.{arith}
@@ -22,9 +22,9 @@ use Rattle.applied.specs.Window.{thirtieth, thirtyFirst, ReadOver, Windo
 use Rattle.applied.proofs.Commands.{read-80}
 use Rattle.applied.proofs.OneId.{Unserved, scene, ring-30, ring-31, served-30, unserved-31}
 
-module _ (track : List ℕ) (whole : length track ≡ sampleLength) (low : allLow track ≡ true) (c : Accepted) (is : ReadOver track c)
-    (ring : OnRing (scene (c .lines) track)) where
-  there : trackOf c ≡ scene (c .lines) track
+module _ (mfm : Bool) (track : List ℕ) (whole : length track ≡ sampleLength) (low : allLow track ≡ true) (c : Accepted)
+    (is : ReadOver mfm track c) (ring : OnRing (scene (c .lines) mfm track)) where
+  there : trackOf c ≡ scene (c .lines) mfm track
   there i = record { machine = is .machine i; lines = c .lines; byte = is .command i; row = is .row i; host = silent }
 
   asked : ReadAsked c
@@ -61,23 +61,23 @@ module _ (track : List ℕ) (whole : length track ≡ sampleLength) (low : allLo
     in-time : took course ≤ 3126
     in-time = omega (arith, most, ends .where-one found)
 
-    shown-on : Unserved (scene (c .lines) track) → Shows (course .after) notFoundBit true
+    pub shown-on : Unserved (scene (c .lines) mfm track) → Shows (course .after) notFoundBit true
     shown-on none l r call = ends .not-found l r call .1 (subst Unserved (sym there) none)
 
-    shown-off : (Unserved (scene (c .lines) track) → ⊥) → Shows (course .after) notFoundBit false
+    pub shown-off : (Unserved (scene (c .lines) mfm track) → ⊥) → Shows (course .after) notFoundBit false
     shown-off serves l r call = not-eq-not .0 (λ on. serves (subst Unserved there (ends .not-found l r call .0 on)))
 
 pub window : Window
 unfolding allLow
 window =
     record {
-      over = λ c e u is. by-then thirtieth refl refl c is (ring-30 (c .lines)) e u;
+      over = λ c e u is. by-then false thirtieth refl refl c is (ring-30 (c .lines)) e u;
       served = λ c course is head last. (
-        in-time thirtieth refl refl c is (ring-30 (c .lines)) course head last,
-        shown-off thirtieth refl refl c is (ring-30 (c .lines)) course head last (served-30 (c .lines)),
+        in-time false thirtieth refl refl c is (ring-30 (c .lines)) course head last,
+        shown-off false thirtieth refl refl c is (ring-30 (c .lines)) course head last (served-30 (c .lines)),
       );
       missed = λ c course is head last. (
-        in-time thirtyFirst refl refl c is (ring-31 (c .lines)) course head last,
-        shown-on thirtyFirst refl refl c is (ring-31 (c .lines)) course head last (unserved-31 (c .lines)),
+        in-time false thirtyFirst refl refl c is (ring-31 (c .lines)) course head last,
+        shown-on false thirtyFirst refl refl c is (ring-31 (c .lines)) course head last (unserved-31 (c .lines)),
       );
     }

@@ -5,4 +5,5 @@ pub mod Sector
 pub mod NotFound
 pub mod Window
 pub mod Broken
+pub mod OldMarks
 pub mod March

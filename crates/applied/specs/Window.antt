@@ -1,6 +1,6 @@
 -- Demand 3 over FM tracks with one ID, whose data mark is the last cell of its window or the one after it. Assumes nothing.
 use mathlib.Core.Path.{_≡_}
-use mathlib.Core.Bool.{true, false}
+use mathlib.Core.Bool.{Bool, true, false}
 use mathlib.Core.List.{List, [], _∷_, _++_}
 use Prim.Native.Nat.{ℕ, _≤_}
 use lib.ListN.{replicate}
@@ -19,8 +19,8 @@ abbrev pub thirtyFirst : List ℕ
 thirtyFirst = id-side-0 ++ replicate 30 0x00 ++ (0x1FB ∷ []) ++ replicate 2010 0x00
 
 -- 80 (Read Sector), accepted at power-on with the drive ready, TR 0 and SR 1, over this track
-pub record ReadOver (track : List ℕ) (c : Accepted) : Type 0 where
-  pub machine : c .machine ≡ fresh false Wd1793
+pub record ReadOver (mfm : Bool) (track : List ℕ) (c : Accepted) : Type 0 where
+  pub machine : c .machine ≡ fresh mfm Wd1793
   pub command : c .byte ≡ 0x80
   pub row : c .row ≡ track
   pub ready : c .lines .ready ≡ true
@@ -28,19 +28,19 @@ pub record ReadOver (track : List ℕ) (c : Accepted) : Type 0 where
 pub record Window : Type 0 where
   -- "within L + 1,078": when 3,126 byte times have passed Busy is off, in every use
   pub over : (c : Accepted) (e : Desk) (u : Use (since c) e)
-      → ReadOver thirtieth c
+      → ReadOver false thirtieth c
       → throughout headLoaded u ≡ true
       → throughout noCommand u ≡ true
       → 3126 ≤ passed u
       → Shows e busyBit false
   -- "Data mark at cell 30 (FM) .. served; 31 .. Record Not Found.": with HLT on throughout
   pub served : (c : Accepted) (course : Course c)
-      → ReadOver thirtieth c
+      → ReadOver false thirtieth c
       → throughout headLoaded (course .calls) ≡ true
       → headLoaded (course .before) (course .after) (course .last) ≡ true
       → (took course ≤ 3126) × Shows (course .after) notFoundBit false
   pub missed : (c : Accepted) (course : Course c)
-      → ReadOver thirtyFirst c
+      → ReadOver false thirtyFirst c
       → throughout headLoaded (course .calls) ≡ true
       → headLoaded (course .before) (course .after) (course .last) ≡ true
       → (took course ≤ 3126) × Shows (course .after) notFoundBit true

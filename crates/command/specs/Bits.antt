@@ -54,7 +54,7 @@ unfoldable pub ibmLengths : Chip → ℕ → Bool
 ibmLengths Wd1793 byte = true
 ibmLengths Wd1797 byte = bitOf byte 3
 
--- "Data marks are FB (normal) and F8 (deleted).": the one that Write Sector writes
+-- "Write Sector still writes FB or F8.": F8, the deleted one, where bit 0 is on
 unfoldable pub markWritten : ℕ → DataMark
 markWritten byte = cond (bitOf byte 0) F8 Fb
 

@@ -43,6 +43,7 @@ use Rattle.uses.proofs.Bytes.{course-loaded, course-read}
 use Rattle.uses.proofs.Serves.{course-serves}
 use Rattle.uses.proofs.Decoding.{decodes-read, decodes-write}
 use Rattle.uses.proofs.Multiples.{multiple-read, over-at-broken}
+use Rattle.uses.proofs.ShownMarks.{read-shows-mark}
 use Rattle.uses.proofs.Sessions.{waits, begun-is, writer-alone, write-ends, wrote-is, asked-is, resumed-is, reader-alone, read-ends, got-is}
 use Rattle.demands.specs.Demands.{ReadBackAsked, ReadBack, Demand2}
 
@@ -253,6 +254,7 @@ demand-2 =
         side-output = side-output;
         multiple = multiple-read;
         broken-over = λ c e u asked. over-at-broken c u asked;
+        shown-marks = λ c course multiple reads. read-shows-mark c course reads;
       };
       reads-back = reads;
     }

@@ -87,7 +87,7 @@ pub record Demand2 : Type 0 where
   pub exactly : (d e : Desk) (u : Use d e) → (e ≡ documented d u) × Answered d u
   -- any interleaving of runs (any limits), byte times and register calls over one row is a host's
   pub every-use : (d e : Desk) (u : Use d e) → IsHost u
-  -- the side output, and the end of a multiple read
+  -- the side output, the end of a multiple read, and the data mark that a read shows
   pub requests : Requests
   pub reads-back : (t : WriteThenRead) (p : ℕ) → ReadBackAsked t p → ReadBack t p
 

@@ -99,7 +99,8 @@ raisedSr sr follows = cond follows ((sr + 1) % 256) sr
 unfoldable pub recordOver : Parts → Bool → Parts
 recordOver p follows = withRegs p (withSr (p .regs) (raisedSr (p .regs .sr) follows))
 
--- "At the second CRC cell: bit 3 if bad, bit 5 on if F8, else off": the good match before the record has cleared bit 3
+-- "At the second CRC cell: bit 3 if bad, bit 5 on if F8, else off": bit 5 by what the mark counts as; the good match before the record
+-- has cleared bit 3
 unfoldable pub recordRead : Parts → Bool → Bool → Bool → Parts
 recordRead p deleted bad follows =
     withFlags (recordOver p follows) (withDeleted (withCrc (p .flags) (p .flags .crc || bad)) deleted)

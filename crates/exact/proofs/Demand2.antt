@@ -1,12 +1,16 @@
 -- Demand 2: what a Write Sector wrote reads back the same. Assumes nothing.
-use mathlib.Core.Path.{_≡_, sym, ap, _∙_, subst}
+use mathlib.Core.Path.{_≡_, refl, sym, ap, _∙_, subst}
+use mathlib.Core.Bool.{Bool, true, false, cond}
 use Prim.Native.Nat.{ℕ, _+_, _<_}
 use native.Mathlib.Omega.{arith}
 use lib.ListN.{length}
 use Rattle.common.proofs.Cases.{never}
+use Rattle.scan.specs.DataMarks.{markByte}
+use Rattle.scan.specs.Streams.{MarkAt}
+use Rattle.command.specs.Bits.{markWritten}
 use Rattle.command.specs.Orders.{orderOf}
 use Rattle.command.specs.declared.Command.the-variants.{ReadSector, WriteSector}
-use Rattle.writing.specs.Writing.{markPlace}
+use Rattle.writing.specs.Writing.{lastKept, lastZero, markPlace}
 use Rattle.hosts.specs.Hosts.{servedAt, at}
 use Rattle.hosts.specs.Bytes.{handed}
 use Rattle.hosts.proofs.Intrq.{ends-told}
@@ -14,15 +18,25 @@ use Rattle.hosts.proofs.Collected.{listed, listed-same, listed-length}
 use Rattle.hosts.proofs.ReadThrough as through
 use Rattle.hosts.proofs.ReadStatus as status
 use Rattle.hosts.proofs.ReadThrough.{Meets}
-use Rattle.exact.specs.Demand2.{Session, writeScene, readScene, begun, resumed, Commands, ReadBackPremises, FewerPremises, InPlace, sizeAt, ReadsBack}
+use Rattle.exact.specs.Demand2.{Session, asked, writeScene, readScene, begun, resumed, Commands, ReadBackPremises, FewerPremises, after, InPlace, sizeAt, ReadsBack}
+use Rattle.exact.proofs.WrittenMarks.{written-byte}
 use Rattle.exact.proofs.SectorField.{Field}
 use Rattle.exact.proofs.WriteSession as write
 use Rattle.exact.proofs.ReadSession as read
 use Rattle.exact.proofs.WrittenField.{data-byte}
 
+-- the cells before the written mark
+last-zero : (mfm : Bool) → lastZero mfm ≡ cond mfm 34 17
+unfolding lastZero lastKept
+last-zero true = refl
+last-zero false = refl
+
 module _ (s : Session) (p : ℕ) (a : FewerPremises s p) where
   abbrev k : Commands s
   k = a .commands
+
+  abbrev mfm : Bool
+  mfm = s .machine .mfm
 
   abbrev mark : ℕ
   mark = markPlace (s .machine .mfm)
@@ -119,6 +133,10 @@ module _ (s : Session) (p : ℕ) (a : FewerPremises s p) where
         missing = through.no-missing meets;
         crc = through.no-crc meets;
         lost = status.late-only meets;
+        marked =
+            subst (MarkAt mfm (after mfm (asked s .row) p) (cond mfm 34 17)) (written-byte (s .byte))
+            (subst (λ (place : ℕ). MarkAt mfm (after mfm (asked s .row) p) place (markByte (markWritten (s .byte)))) (last-zero mfm)
+            (read.mark-stands s p a));
         deleted = status.told-mark meets;
         status = λ l. status.told meets l;
       }

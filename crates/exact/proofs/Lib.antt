@@ -1,5 +1,6 @@
 -- Demand 2, a Write Sector that nobody serves, and the lemmas that they stand on.
 pub mod RoundPlaces
+pub mod WrittenMarks
 pub mod SectorField
 pub mod OneMark
 pub mod OldIds

@@ -157,13 +157,14 @@ module _ (f : Field) (cells : ℕ → ℕ) (v : Behind f cells) where
   -- no data mark ends before the one that was written
   pub none-before : (j : ℕ) → suc j < markPlace (f .mfm) → (mark : DataMark) → soughtAt (f .mfm) cells j ≡ Met mark → ⊥
   none-before j h mark e =
-      let (a, p, m) = data-marks (f .mfm) cells j mark .0 e in
+      let (has, (a, p, m)) = data-marks (f .mfm) cells j mark .0 e in
       let one = one-mark f cells v a (markByte mark) (omega (arith, mark-byte mark .0)) (omega arith) m in
       omega (arith, one .0, numbers (f .mfm) .mark-last)
 
-  there : (mfm : Bool) → f .mfm ≡ mfm → MarkAt mfm cells (lastZero (f .mfm)) (markByte (f .data-mark))
+  -- that one stands there
+  pub mark-there : (mfm : Bool) → f .mfm ≡ mfm → MarkAt mfm cells (lastZero (f .mfm)) (markByte (f .data-mark))
   unfolding MarkAt markCell leadOf
-  there false e =
+  mark-there false e =
       let n = numbers (f .mfm) in
       let lead : leadOf (f .mfm) ≡ 0 = ap leadOf e in
       let m = mark-byte (f .data-mark) in (
@@ -172,7 +173,7 @@ module _ (f : Field) (cells : ℕ → ℕ) (v : Behind f cells) where
             ∙ marked f (lastZero (f .mfm)) (omega (arith, n .mark-last))
             ∙ ap (λ (d : Bool). markCell d (markByte (f .data-mark))) e,
       )
-  there true e =
+  mark-there true e =
       let m = mark-byte (f .data-mark) in (
         omega (arith, m .1),
         lead (lastZero (f .mfm)) (omega arith) (omega (arith, last)),
@@ -195,4 +196,4 @@ module _ (f : Field) (cells : ℕ → ℕ) (v : Behind f cells) where
   pub met-there : (j : ℕ) → suc j ≡ markPlace (f .mfm) → soughtAt (f .mfm) cells j ≡ Met (f .data-mark)
   met-there j e =
       data-marks (f .mfm) cells j (f .data-mark) .1
-      (lastZero (f .mfm), omega (arith, numbers (f .mfm) .mark-last), there (f .mfm) refl)
+      (f .of-density, (lastZero (f .mfm), omega (arith, numbers (f .mfm) .mark-last), mark-there (f .mfm) refl))

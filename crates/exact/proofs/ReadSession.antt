@@ -7,12 +7,13 @@ use mathlib.Core.Logic.{_⊎_, inl, inr}
 use Prim.Native.Nat.{ℕ, _+_, _-_, _%_}
 use native.Mathlib.Omega.{arith}
 use lib.ListN.{length}
-use Rattle.scan.specs.Streams.{IdAt, idWidth, idFrom}
+use Rattle.scan.specs.DataMarks.{markByte}
+use Rattle.scan.specs.Streams.{MarkAt, IdAt, idWidth, idFrom}
 use Rattle.scan.specs.declared.Id.{Id}
 use Rattle.command.specs.Commands.{classOf}
 use Rattle.command.specs.Sizes.{fieldSize}
 use Rattle.command.specs.declared.Command.the-variants.{ReadSector}
-use Rattle.writing.specs.Writing.{lastKept, markPlace}
+use Rattle.writing.specs.Writing.{lastKept, lastZero, markPlace}
 use Rattle.accepting.specs.Accepting.{writes, heldBy}
 use Rattle.fields.specs.Rings.{cellsOf}
 use Rattle.hosts.specs.Hosts.{servedAt, at}
@@ -23,9 +24,9 @@ use Rattle.hosts.proofs.RingIds.{same-side-suits, IdOnRing}
 use Rattle.hosts.proofs.Working.{TakenUp}
 use Rattle.hosts.proofs.Found.{Lost, searched, lost-none, foundPlace, foundSize, found-on, found-cells}
 use Rattle.hosts.proofs.ReadThrough.{FieldIn, EndedSingle, working, heads, FoundId, cellsOn, Meets}
-use Rattle.exact.specs.Demand2.{Session, begun, asked, writeScene, readScene, Commands, FewerPremises, clearCells}
+use Rattle.exact.specs.Demand2.{Session, begun, asked, writeScene, readScene, Commands, FewerPremises, after, clearCells}
 use Rattle.exact.proofs.SectorField.{Field}
-use Rattle.exact.proofs.OneMark.{Behind}
+use Rattle.exact.proofs.OneMark.{Behind, mark-there}
 use Rattle.exact.proofs.NextCommand.{later, asked-fixed}
 use Rattle.exact.proofs.OldIds.{WrittenOver, stood-before, stands-still}
 use Rattle.exact.proofs.WriteSession as write
@@ -199,6 +200,15 @@ module _ (s : Session) (p : ℕ) (a : FewerPremises s p) where
         place = markPlace (s .machine .mfm);
         field = reads-field;
       }
+
+  -- the mark that was written stands after the ID
+  pub mark-stands :
+      MarkAt (s .machine .mfm) (after (s .machine .mfm) (asked s .row) p) (lastZero (s .machine .mfm))
+      (markByte (write.written s k .data-mark))
+  mark-stands =
+      subst (λ (q : ℕ). MarkAt mfm (after mfm (asked s .row) q) (lastZero mfm) (markByte (field .data-mark))) here
+      (subst (λ (row : List ℕ). MarkAt mfm (after mfm row p′) (lastZero mfm) (markByte (field .data-mark))) (sym same-row)
+      (mark-there field (after mfm now p′) behind mfm refl))
 
   -- the cell that is j cells after the ID
   pub same-cell :

@@ -9,7 +9,7 @@ use Rattle.common.proofs.Cases.{by-cond}
 use Rattle.scan.specs.Marks.{sync, leadOf, markCrc}
 use Rattle.writing.specs.Writing.{lastKept, lastZero, markPlace, markCell, preambleCell}
 use Rattle.hosts.proofs.DataFields.{sumAfter, sum-below, mark-word}
-use Rattle.scan.specs.DataMarks.{markByte}
+use Rattle.scan.specs.DataMarks.{markByte, densityHas}
 use Rattle.scan.proofs.DataMarks.{mark-byte}
 use Rattle.scan.specs.declared.DataMark.{DataMark}
 
@@ -17,6 +17,7 @@ use Rattle.scan.specs.declared.DataMark.{DataMark}
 pub record Field : Type 0 where
   pub mfm : Bool
   pub data-mark : DataMark
+  pub of-density : densityHas mfm data-mark ≡ true
   pub size : ℕ
   pub bytes : ℕ → ℕ
   pub old : ℕ → ℕ

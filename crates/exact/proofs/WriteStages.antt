@@ -35,6 +35,7 @@ use Rattle.hosts.proofs.ByteTimes.{lost-later}
 use Rattle.hosts.proofs.Courses.{Course, deskAt, besideAt, AnyRow, ends-there}
 use Rattle.hosts.proofs.Phases.{comes, Comes, Stands, comes-busy, writes-on, flags-on, deed-is}
 use Rattle.hosts.proofs.Keeps.{Keeps, nothing-keeps, ask-keeps, take-keeps, late-keeps, written-keeps}
+use Rattle.exact.proofs.WrittenMarks.{written-had}
 use Rattle.exact.proofs.RoundPlaces.{round-apart}
 use Rattle.exact.proofs.SectorField.{Field, cellOf, fieldReach, numbers, put, put-data, put-high, put-low, put-last}
 use Rattle.effects.specs.Effects.{effectOf, delivered, addressNamed, recordOver, recordRead, cellTaken, stepped, halted}
@@ -75,6 +76,7 @@ module _ {n : ℕ} (c : Course AnyRow) (t size : ℕ) (v : View) (b : WriteBegun
       record {
         mfm = v .mfm;
         data-mark = markWritten (v .order .byte);
+        of-density = written-had (v .mfm) (v .order .byte);
         size = size;
         bytes = took;
         old = λ j. getD (v .row) (place j) 0;

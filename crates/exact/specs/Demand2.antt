@@ -5,6 +5,7 @@ use mathlib.Core.Bool.{Bool, true, false, cond, not}
 use mathlib.Core.List.{List}
 use Prim.Native.Nat.{ℕ, suc, _+_, _≤_, _<_}
 use lib.ListN.{length}
+use Rattle.common.specs.Bits.{bitOf}
 use Rattle.scan.specs.Marks.{leadOf}
 use Rattle.scan.specs.Streams.{MarkAt, IdAt, idWidth, idFrom}
 use Rattle.command.specs.Bits.{isMultiple, settlesFirst, sideAsked, ibmLengths, markWritten}
@@ -204,6 +205,11 @@ pub record ReadsBack (s : Session) (p : ℕ) : Type 0 where
   pub crc : got s .flags .crc ≡ false
   -- but for what the host's own lateness brings
   pub lost : got s .flags .lost ≡ true → (k : ℕ) × (k < s .read) × LateAt (s .reader) (resumed s) k
+  -- "Write Sector still writes FB or F8.": on the track, "FM writes from 12: six 00, flagged mark; MFM from 23: twelve 00, three
+  -- flagged A1, mark", so it stands after 17 or 34 cells
+  pub marked :
+      MarkAt (s .machine .mfm) (after (s .machine .mfm) (asked s .row) p) (cond (s .machine .mfm) 34 17)
+      (cond (bitOf (s .byte) 0) 0xF8 0xFB)
   -- bit 5 shows the mark that the write wrote
   pub deleted : got s .flags .deleted ≡ isDeleted (markWritten (s .byte))
   -- so the status byte, under any lines, has no bits but Not Ready, the mark, Lost Data and DRQ

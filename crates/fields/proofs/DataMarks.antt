@@ -70,16 +70,18 @@ module _ (mfm : Bool) (row : List ℕ) (place : ℕ) where
       let byte : a + leadOf mfm + 1 ≡ place + suc n = w .byte in
       let q : place + (a - place) ≡ a = omega arith in
       let h : MarkAt mfm cells (place + (a - place)) (markByte mark) = rw q (w .stands) in
-      data-marks mfm stream n mark .1 (a - place, omega arith, shift.mark-back cells place mfm (a - place) (markByte mark) h)
+      data-marks mfm stream n mark .1
+      (w .of-density, (a - place, omega arith, shift.mark-back cells place mfm (a - place) (markByte mark) h))
 
   from-end : (n : ℕ) (mark : DataMark) → n < windowOf mfm → Ends n mark → (a : ℕ) × MarkWithin mfm cells place mark a (suc n)
   from-end n mark l e =
-      let (a, p, h) = data-marks mfm stream n mark .0 e in (
+      let (has, (a, p, h)) = data-marks mfm stream n mark .0 e in (
         place + a,
         record {
           low = omega arith;
           byte = omega arith;
           high = omega arith;
+          of-density = has;
           stands = shift.mark-there cells place mfm a (markByte mark) h;
         },
       )

@@ -1,11 +1,11 @@
--- What the next ID and the data mark after one are, by document 01's words on a ring of cells. Assumes nothing.
+-- What the next ID and the data mark after one are, by the words of documents 01 and 02, f, on a ring of cells. Assumes nothing.
 use mathlib.Core.Path.{_≡_}
-use mathlib.Core.Bool.{Bool}
+use mathlib.Core.Bool.{Bool, true}
 use Prim.Native.Nat.{ℕ, _+_, _≤_, _<_}
 use Rattle.scan.specs.declared.Id.{Id}
 use Rattle.scan.specs.declared.DataMark.{DataMark}
 use Rattle.scan.specs.Marks.{leadOf}
-use Rattle.scan.specs.DataMarks.{markByte, windowOf}
+use Rattle.scan.specs.DataMarks.{markByte, densityHas, windowOf}
 use Rattle.scan.specs.Streams.{MarkAt, IdAt, idFrom, idWidth}
 
 -- an ID stands in the cells from place a on, and all of them from one place up to another
@@ -27,6 +27,8 @@ pub record MarkWithin (mfm : Bool) (cells : ℕ → ℕ) (place : ℕ) (mark : D
   pub low : place ≤ a
   pub byte : a + leadOf mfm + 1 ≡ place + cell
   pub high : cell ≤ windowOf mfm
+  -- "In FM only, flagged F9 and FA become data marks"
+  pub of-density : densityHas mfm mark ≡ true
   pub stands : MarkAt mfm cells a (markByte mark)
 
 -- "Other marks there are passed over": the first data mark of the window is the ID's

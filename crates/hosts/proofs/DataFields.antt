@@ -1,4 +1,4 @@
--- The register over the bytes of a data field. Assumes nothing.
+-- The numbers of a data field: its mark's byte and what that counts as, and the register over its bytes. Assumes nothing.
 use mathlib.Core.Path.{_≡_, refl}
 use mathlib.Core.Bool.{Bool, true, false}
 use Prim.Native.Nat.{ℕ, zero, suc, _<_}
@@ -6,11 +6,22 @@ use native.Mathlib.Omega.{arith}
 use Rattle.crc.specs.Crc.{preset, crcByte}
 use Rattle.crc.proofs.Laws.{byte-below, over-below}
 use Rattle.scan.specs.Marks.{markBytes, markCrc}
+use Rattle.scan.specs.DataMarks.{markByte, isDeleted}
+use Rattle.scan.specs.declared.DataMark.{DataMark}
+use Rattle.scan.specs.declared.DataMark.the-variants.{Fb, F8, F9, Fa}
+use Rattle.hosts.specs.Scenes.{countsDeleted}
 
 -- the register after n of the bytes
 unfoldable pub sumAfter : ℕ → (ℕ → ℕ) → ℕ → ℕ
 sumAfter crc bytes zero = crc
 sumAfter crc bytes (suc n) = crcByte (sumAfter crc bytes n) (bytes n)
+
+pub deleted-byte : (mark : DataMark) → isDeleted mark ≡ countsDeleted (markByte mark)
+unfolding isDeleted markByte
+deleted-byte Fb = refl
+deleted-byte F8 = refl
+deleted-byte F9 = refl
+deleted-byte Fa = refl
 
 pub mark-word : (mfm : Bool) (b : ℕ) → b < 256 → markCrc mfm b < 65536
 unfolding markCrc markBytes

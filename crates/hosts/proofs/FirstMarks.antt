@@ -1,7 +1,7 @@
 -- The first data mark after an ID, and the register over its field: by document 01's words on the cells, and as a Read Sector meets
 -- them in the stream that passes after the ID. Assumes nothing.
 use mathlib.Core.Path.{_≡_, refl, sym, ap, ap₂, _∙_}
-use mathlib.Core.Bool.{Bool, true, false, true≢false}
+use mathlib.Core.Bool.{Bool, true≢false}
 use Prim.Native.Nat.{ℕ, zero, suc, _+_, _-_, _≤_, _<_}
 use native.Mathlib.Nat.{add-zero, add-suc}
 use native.Mathlib.Omega.{arith}
@@ -41,12 +41,13 @@ module _ (mfm : Bool) (cells stream : ℕ → ℕ) (place : ℕ) (agree : (j : �
       → soughtAt mfm stream u ≡ Met mark
       → (at : ℕ) × MarkWithin mfm cells place mark at (suc u)
   met-within mark u near e =
-      let (a, ends, stands) = data-marks mfm stream u mark .0 e in (
+      let (has, (a, ends, stands)) = data-marks mfm stream u mark .0 e in (
         place + a,
         record {
           low = omega arith;
           byte = omega arith;
           high = near;
+          of-density = has;
           stands = mark-moved mfm stream cells a (place + a) (λ i l. there a (place + a) refl i) (markByte mark) stands;
         },
       )
@@ -57,9 +58,8 @@ module _ (mfm : Bool) (cells stream : ℕ → ℕ) (place : ℕ) (agree : (j : �
       let a : ℕ = at - place in
       let here : place + a ≡ at = omega (arith, m .low) in
       data-marks mfm stream u mark .1 (
-        a,
-        omega (arith, m .byte),
-        mark-moved mfm cells stream at a (λ i l. sym (there a at here i)) (markByte mark) (m .stands),
+        m .of-density,
+        (a, omega (arith, m .byte), mark-moved mfm cells stream at a (λ i l. sym (there a at here i)) (markByte mark) (m .stands)),
       )
 
   -- where none is met with the first n cells, none stands there

@@ -93,7 +93,7 @@ module _ (w : View) (o : Outside) where
     unfolding actOf begunActivity activityAct dataCell
     crc-on e = simp (is, lt-leb 3 left (omega arith), eq-eqb left 2 e)
 
-    -- "At the second CRC cell: bit 3 if bad, bit 5 on if F8, else off, Busy off, INTRQ. With m .. the search starts afresh"
+    -- "At the second CRC cell: bit 3 if bad, bit 5 .., Busy off, INTRQ. With m .. the search starts afresh"
     pub crc-end :
         left ≡ 1
         → Does (afterRecord (recordFollows (isMultiple (w .order .byte)) (crcByte crc byte)))

@@ -4,7 +4,7 @@ use mathlib.Core.Path.{_≡_, refl, sym, ap, _∙_, subst}
 use mathlib.Core.Bool.{Bool, true, false}
 use mathlib.Core.List.{List}
 use Prim.Native.Nat.{ℕ, zero, suc, _+_, _-_, _≤_, _<_}
-use native.Mathlib.Nat.{add-zero}
+use native.Mathlib.Nat.{add-zero, zero-add}
 use native.Mathlib.Omega.{arith}
 use lib.Dec.{leb, eqb}
 use lib.ListN.{length}
@@ -16,17 +16,19 @@ use Rattle.activity.specs.declared.Activity.{Activity}
 use Rattle.activity.specs.declared.Activity.the-variants.{Idle, Settle}
 use Rattle.activity.specs.declared.Deed.{Deed}
 use Rattle.activity.specs.declared.Deed.the-variants.{NotFound}
+use Rattle.registers.specs.declared.Flags.{Flags}
 use Rattle.search.specs.Search.{pulsesSeen}
 use Rattle.act.specs.Turns.{jobBegun, begunActivity}
 use Rattle.effects.proofs.Apart.{flagsAfter}
 use Rattle.reachable.specs.ByteTimes.{turnsOn}
+use Rattle.hosts.specs.Bytes.{deedAt}
 use Rattle.hosts.specs.Tracks.{pulsesIn}
 use Rattle.hosts.proofs.Pulses.{pulseTime, pulses-few, pulses-then}
 use Rattle.hosts.proofs.Firsts.{FirstOrNone, first}
 use Rattle.hosts.proofs.Keeps.{Keeps}
 use Rattle.hosts.proofs.Views.{View, Outside, seenIn, actIn}
 use Rattle.hosts.proofs.Courses.{Course, deskAt, besideAt, Lasts}
-use Rattle.hosts.proofs.Phases.{stands, PhasePasses, PassesTo, Stands, stands-lasts, flags-on, passes-on, loses-on, lasts}
+use Rattle.hosts.proofs.Phases.{stands, PhasePasses, PassesTo, Leaves, Stands, stands-lasts, flags-on, passes-on, loses-on, lasts, bit-stays}
 use Rattle.hosts.proofs.Settling.{settle-begins}
 use Rattle.hosts.proofs.Passing.{OnTrack, head-inside, pulsesFrom, pulses-on}
 use Rattle.command.specs.Commands.{jobOf}
@@ -168,6 +170,21 @@ module _ {Rows : List ℕ → Type 0} {c : Course Rows} {t : ℕ} {v : View} (s 
       (counts k (omega arith))
       (s .seeks (v .missing) o (s .counted + pulsesFrom v k) k .on (unlost k (omega arith)) (unmet k m))))
       (s .begins)
+
+  -- a status bit that each of its deeds leaves
+  pub seek-bit :
+      (bit : Flags → Bool) (n : ℕ)
+      → n ≤ fifth
+      → Unmet n
+      → ((k : ℕ) → k ≤ n → Leaves bit (deedAt (c .host) (c .desk) (t + k)))
+      → bit (deskAt c (t + suc n) .machine .flags) ≡ bit (deskAt c t .machine .flags)
+  seek-bit bit n l unmet leaves =
+      let none : t + 0 ≡ t = omega arith in
+      (rw (zero-add (suc n)) at
+      (bit-stays c t v (s .rows) bit {missing = v .missing} 0 seekAt (suc n)
+      (λ k m. rw (zero-add k) (seeking k (omega arith) (λ i h. unmet i (omega arith)))) (λ k m. seek-busy k)
+      (λ k m. rw (zero-add k) (leaves k (omega arith)))))
+      ∙ ap (λ (k : ℕ). bit (deskAt c k .machine .flags)) none
 
   module _ (n : ℕ) (soon : n < fifth) (unmet : Unmet n) (hit : s .seeker .ends n ≡ true) where
     here : Stands c t v n (v .missing) (seekAt n)

@@ -1,4 +1,5 @@
 -- Settling and searching move no byte, and change no status bit but 3 and 4. Assumes nothing.
+use mathlib.Core.Path.{refl}
 use mathlib.Core.Bool.{Bool, true, false}
 use Prim.Native.Nat.{ℕ}
 use Rattle.scan.specs.declared.Scan.{Scan}
@@ -13,6 +14,9 @@ use Rattle.activity.specs.declared.Deed.{Deed}
 use Rattle.activity.specs.declared.Deed.the-variants.{Nothing, Matched, NotFound}
 use Rattle.act.specs.Turns.{jobBegun, actOf}
 use Rattle.act.proofs.Acts.{Passes, Acts, Enters, enters, turns}
+use Rattle.effects.specs.Effects.{effectOf, delivered, addressNamed, recordOver, recordRead, cellTaken, stepped, halted}
+use Rattle.effects.proofs.Apart.{flagsAfter}
+use Rattle.hosts.proofs.Phases.{Leaves}
 use Rattle.hosts.proofs.Searching.{TypeTwo, reads, writes}
 
 -- the deeds of a search
@@ -20,6 +24,13 @@ pub data Silent : Deed → Type 0 where
   nothing : Silent Nothing
   matched : (bad : Bool) → Silent (Matched bad)
   lost : Silent NotFound
+
+-- they leave bit 5
+pub silent-deleted : (deed : Deed) → Silent deed → Leaves (λ f. f .deleted) deed
+unfolding flagsAfter effectOf delivered addressNamed recordOver recordRead cellTaken stepped halted
+silent-deleted deed nothing = λ f drq. refl
+silent-deleted deed (matched bad) = λ f drq. refl
+silent-deleted deed lost = λ f drq. refl
 
 -- settling or searching
 pub data Early : Activity → Type 0 where

@@ -148,6 +148,32 @@ module _ {Rows : List ℕ → Type 0} {c : Course Rows} {t : ℕ} {v : View} {j 
       (loses-on c t v (r .rows) (awaits last (omega arith) (λ k l. none k (omega arith))) refl
       (misses-act last (besideAt c (t + (j + last))) (none last (omega arith)) one))
 
+  -- the status bits that both its deeds leave stay
+  pub unmarked-bit :
+      NoMarkIn (v .mfm) (cellsAfter v j) (windowOf (v .mfm))
+      → (bit : Flags → Bool)
+      → Leaves bit Nothing
+      → Leaves bit NotFound
+      → bit (deskAt c (t + (j + windowOf (v .mfm))) .machine .flags) ≡ bit (deskAt c (t + j) .machine .flags)
+  unfolding busyIn
+  unmarked-bit none bit waits fails =
+      bit-stays c t v (r .rows) bit j windowAt (windowOf (v .mfm))
+      (λ k l. awaits k l (λ i h. none i (omega arith))) (λ k l. refl) (λ k l. leaves k l (decLt (suc k) (windowOf (v .mfm))))
+    where
+      leaves : (k : ℕ) → k < windowOf (v .mfm) → Dec (suc k < windowOf (v .mfm)) → Leaves bit (deedAt (c .host) (c .desk) (t + (j + k)))
+      leaves k l (yes more) =
+          subst (Leaves bit)
+          (sym
+          (deed-is c t v (awaits k l (λ i h. none i (omega arith))) refl (r .rows)
+          (awaits-act k (besideAt c (t + (j + k))) (none k l) more)))
+          waits
+      leaves k l (no last) =
+          subst (Leaves bit)
+          (sym
+          (deed-is c t v (awaits k l (λ i h. none i (omega arith))) refl (r .rows)
+          (misses-act k (besideAt c (t + (j + k))) (none k l) (omega arith))))
+          fails
+
   -- the data mark, and nothing moves up to it
   module _ (u : ℕ) (mark : DataMark) (first : FirstMarkIn (v .mfm) (cellsAfter v j) mark u) where
     pub marked :

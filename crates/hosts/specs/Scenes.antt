@@ -1,6 +1,6 @@
 -- A command under any host: the load that it begins with, the track, and the IDs that it goes by. Assumes nothing.
 use mathlib.Core.Path.{_≡_}
-use mathlib.Core.Bool.{Bool, true, cond}
+use mathlib.Core.Bool.{Bool, true, cond, _||_}
 use mathlib.Core.List.{List}
 use Prim.Native.Nat.{ℕ, _%_}
 use lib.Dec.{eqb}
@@ -60,6 +60,10 @@ byCode zeroth first second third code =
 unfoldable pub fieldBytes : Chip → ℕ → ℕ → ℕ
 fieldBytes Wd1793 byte code = byCode 128 256 512 1024 code
 fieldBytes Wd1797 byte code = cond (bitOf byte 3) (byCode 128 256 512 1024 code) (byCode 256 512 1024 128 code)
+
+-- "bit 5 on if F8, else off"; "F9 counts as deleted, FA as normal": whether a data mark with this byte counts as deleted
+abbrev pub countsDeleted : ℕ → Bool
+countsDeleted b = eqb b 0xF8 || eqb b 0xF9
 
 -- "5 .. deleted mark (read); 4 .. Record Not Found; 3 CRC": bits of the status byte that a read hands back under these lines
 abbrev pub deletedMark : Machine → Lines → Bool

@@ -16,7 +16,7 @@ use Rattle.common.proofs.Cases.{never}
 use Rattle.common.proofs.Arms.{range}
 use Rattle.crc.specs.Crc.{crcBit, crcBits, crcByte}
 use Rattle.scan.specs.Marks.{sync, leadOf}
-use Rattle.scan.specs.DataMarks.{markByte, windowOf}
+use Rattle.scan.specs.DataMarks.{markByte, densityHas, windowOf}
 use Rattle.scan.specs.Streams.{MarkAt, crcFrom, idFrom, IdEnds}
 use Rattle.scan.specs.declared.DataMark.the-variants.{Fb}
 use Rattle.scan.specs.declared.Id.{Id}
@@ -161,16 +161,16 @@ no-sync u below e = eqb-false _ _ (sym (range is {x = u} 0 39 refl (omega arith)
 
 -- the 43rd is one
 marks : FirstMarkIn true (afterId scene 2056) Fb 42
-unfolding MarkAt leadOf markByte windowOf
+unfolding MarkAt leadOf markByte densityHas windowOf
 marks =
     record {
       near = leb-true 43 43 refl;
       none = λ u below.
           unmet-by _
           (λ mark met.
-          let (a, p, stands) = data-marks true (afterId scene 2056) u mark .0 met in
+          let (has, (a, p, stands)) = data-marks true (afterId scene 2056) u mark .0 met in
           no-sync a (omega arith) (stands .1));
-      met = data-marks true (afterId scene 2056) 42 Fb .1 (39, refl, (omega arith, after 39, after 40, after 41, after 42));
+      met = data-marks true (afterId scene 2056) 42 Fb .1 (refl, (39, refl, (omega arith, after 39, after 40, after 41, after 42)));
     }
 
 -- ---- the end

@@ -65,11 +65,19 @@ pub record FirstWhole (s : Scene) (n : ℕ) : Type 0 where
 unfoldable pub windowCells : Bool → ℕ
 windowCells mfm = cond mfm 43 30
 
--- ".. in MFM its three A1s too": an ID whose last cell is n has a data mark in its window, FB or F8, from cell a on
+-- "Data marks are FB (normal) and F8 (deleted)."; "In FM only, flagged F9 and FA become data marks", and "demand 3's "data mark"
+-- includes them in FM": the byte of a data mark
+pub data IsDataMark (mfm : Bool) (byte : ℕ) : Type 0 where
+  fb : byte ≡ 0xFB → IsDataMark mfm byte
+  f8 : byte ≡ 0xF8 → IsDataMark mfm byte
+  f9 : mfm ≡ false → byte ≡ 0xF9 → IsDataMark mfm byte
+  fa : mfm ≡ false → byte ≡ 0xFA → IsDataMark mfm byte
+
+-- ".. in MFM its three A1s too": an ID whose last cell is n has a data mark in its window, from cell a on
 pub record MarkInWindow (s : Scene) (n : ℕ) : Type 0 where
   pub a : ℕ
   pub byte : ℕ
-  pub data-mark : (byte ≡ 0xFB) ⊎ (byte ≡ 0xF8)
+  pub data-mark : IsDataMark (s .machine .mfm) byte
   pub stands : MarkAt (s .machine .mfm) (streamOf s) a byte
   pub after : n < a
   pub within : a + leadOf (s .machine .mfm) ≤ n + windowCells (s .machine .mfm)

@@ -5,4 +5,5 @@ pub mod Printing
 pub mod Stepping
 pub mod Running
 pub mod Complete
+pub mod Marks
 pub mod Pictures

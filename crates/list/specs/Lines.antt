@@ -37,12 +37,12 @@ unfoldable pub crcText : Bool → List ℕ
 crcText good =
     cond good (space ∷ 0x67 ∷ 0x6F ∷ 0x6F ∷ 0x64 ∷ []) (space ∷ 0x62 ∷ 0x61 ∷ 0x64 ∷ [])
 
--- "data mark FB, F8 or none": ` none`
+-- "data mark FB, F8 or none", and "the list, which prints F9 or FA": the byte of the mark, or ` none`
 unfoldable pub markText : Behind → List ℕ
 markText Nothing = space ∷ 0x6E ∷ 0x6F ∷ 0x6E ∷ 0x65 ∷ []
 markText (Mark mark cell) = byteText (markByte mark)
 
--- "cell in decimal, four bytes, CRC good or bad, data mark FB, F8 or none even if bad"
+-- "cell in decimal, four bytes, CRC good or bad, data mark .."
 unfoldable pub idText : ℕ → Id → Behind → List ℕ
 idText cell id behind =
     decimalOf cell

@@ -5,11 +5,13 @@ use mathlib.Core.Bool.{Bool}
 use mathlib.Core.List.{List, [], _∷_}
 use Prim.Native.Nat.{ℕ, _+_, _-_, _%_, _<_}
 use lib.ListN.{length}
-use Rattle.scan.specs.Marks.{leadOf}
+use Rattle.scan.specs.Marks.{byteOf, leadOf}
+use Rattle.scan.specs.declared.DataMark.{DataMark}
 use Rattle.scan.specs.Streams.{IdAt, idFrom, idWidth}
 use Rattle.fields.specs.Rings.{cellsOf}
 use Rattle.fields.specs.DataMarks.{markBehind}
-use Rattle.list.specs.Lines.{idText}
+use Rattle.fields.specs.Rounds.{MarkWithin, FirstMark}
+use Rattle.list.specs.Lines.{space, byteText, idText}
 
 -- an ID stands on the ring, over the ring's end or not, and its FE is cell k: it begins at some place of the cells as they
 -- pass, round and round, and the FE stands after its lead
@@ -37,7 +39,17 @@ pub record ByCell (mfm : Bool) (row fes : List ℕ) : Type 0 where
 abbrev pub begins : Bool → List ℕ → ℕ → ℕ
 begins mfm row k = length row + k - leadOf mfm
 
--- "cell in decimal, four bytes, CRC good or bad, data mark FB, F8 or none even if bad": the line of the ID whose FE is cell k
+-- "data mark FB, F8 or none", and "the list, which prints F9 or FA": what is printed of the window that begins at a place
+pub data MarkPrinted (mfm : Bool) (row : List ℕ) (place : ℕ) : List ℕ → Type 0 where
+  -- the byte in the last cell of its first data mark
+  byte : {mark : DataMark} {a cell : ℕ}
+      → FirstMark mfm (cellsOf row) place mark a cell
+      → MarkPrinted mfm row place (byteText (byteOf (cellsOf row (a + leadOf mfm))))
+  -- ` none` where it has none
+  none : ((mark : DataMark) (a cell : ℕ) → MarkWithin mfm (cellsOf row) place mark a cell → ⊥)
+      → MarkPrinted mfm row place (space ∷ 0x6E ∷ 0x6F ∷ 0x6E ∷ 0x65 ∷ [])
+
+-- "cell in decimal, four bytes, CRC good or bad, data mark ..": the line of the ID whose FE is cell k
 unfoldable pub idLineAt : Bool → List ℕ → ℕ → List ℕ
 idLineAt mfm row k =
     idText k (idFrom mfm (cellsOf row) (begins mfm row k)) (markBehind mfm row (begins mfm row k + idWidth mfm))

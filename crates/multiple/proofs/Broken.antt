@@ -48,7 +48,7 @@ module _ {s : Scene} (w : Working LowRow s ReadSector) (multiple : isMultiple (s
   comes-over {sector} {t} none b r bad = by (searched w sector t b)
     where
       by : Comes w sector t → Over t r
-      by (goes-on r′ multiple good lasting next) = absurd (bad (good-both r′ r good))
+      by (goes-on r′ multiple good lasting deleted next) = absurd (bad (good-both r′ r good))
       by (stops r′ worse lasting k last-cell here crc deleted drq) =
           let there : t + k ≡ passedBy r = last-cell ∙ one-end r′ r in
           record {
@@ -59,11 +59,11 @@ module _ {s : Scene} (w : Working LowRow s ReadSector) (multiple : isMultiple (s
             found = rw there at (ap (λ (v : View). v .missing) (here .view));
             deleted = (rw there at deleted) ∙ ap isDeleted (same-marks r′ r .1);
           }
-      by (lost k nothing here) = absurd (no-other nothing r)
+      by (lost k nothing here deleted) = absurd (no-other nothing r)
   comes-over {sector} {t} (more it good rest) b r bad = by (λ next. comes-over rest next r bad) (searched w sector t b)
     where
       by : (Begins w ((sector + 1) % 256) (passedBy it) → Over (passedBy it) r) → Comes w sector t → Over t r
-      by on (goes-on it′ multiple good′ lasting next) =
+      by on (goes-on it′ multiple good′ lasting deleted next) =
           let rest = on (subst (Begins w ((sector + 1) % 256)) (one-end it′ it) next) in
           record {
             lasting = λ i l h. either i (decLt i (passedBy it)) l h (rest .lasting);
@@ -79,7 +79,7 @@ module _ {s : Scene} (w : Working LowRow s ReadSector) (multiple : isMultiple (s
           either i (yes m) l h later = lasting i l (omega (arith, one-end it′ it))
           either i (no m) l h later = later i (omega arith) h
       by on (stops it′ bad′ lasting k last-cell here crc deleted drq) = absurd (bad′ multiple (good-both it it′ good))
-      by on (lost k nothing here) = absurd (no-other nothing it)
+      by on (lost k nothing here deleted) = absurd (no-other nothing it)
 
 -- ---- from the load on
 

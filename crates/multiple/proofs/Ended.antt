@@ -17,18 +17,20 @@ use Rattle.activity.specs.declared.Activity.the-variants.{Idle, Settle}
 use Rattle.registers.specs.declared.Flags.{Flags}
 use Rattle.accepting.specs.Accepting.{heldBy, writes}
 use Rattle.reachable.proofs.Valid.{Valid, load-valid}
+use Rattle.hosts.specs.Hosts.{at}
 use Rattle.hosts.specs.Scenes.{Scene, loaded}
 use Rattle.hosts.proofs.Accepted.{accepted-valid, flagsGiven, given-flags}
-use Rattle.hosts.proofs.ByteTimes.{kind-later}
+use Rattle.hosts.proofs.ByteTimes.{next-flags, kind-later}
 use Rattle.hosts.proofs.Courses.{AnyRow}
 use Rattle.hosts.proofs.Found.{two-begins, two-enters}
 use Rattle.hosts.proofs.Intrq.{ends-told}
 use Rattle.hosts.proofs.Phases.{Stands}
 use Rattle.hosts.proofs.Searching.{reads-two}
+use Rattle.hosts.proofs.Silent.{silent-deleted}
 use Rattle.hosts.proofs.Seeking.{Entry}
 use Rattle.hosts.proofs.Views.{View, stays-valid}
-use Rattle.hosts.proofs.Working.{TakenUp, Working, ended-working, ended-upto, courseOf, Heads, heads-by, begins}
-use Rattle.multiple.specs.Multiple.{EndedReadSector, endOf, cellsBy, RecordFrom, fieldCells, GoodCrc, passedBy, GoodRecords, none, more, LastSearch, NoRecord}
+use Rattle.hosts.proofs.Working.{TakenUp, Working, ended-working, ended-upto, courseOf, Heads, heads-by, begins, waits-silent}
+use Rattle.multiple.specs.Multiple.{EndedReadSector, endOf, cellsBy, RecordFrom, fieldCells, GoodCrc, passedBy, GoodRecords, none, more, deletedAfter, LastSearch, NoRecord}
 use Rattle.multiple.proofs.Cells.{viewAt}
 use Rattle.multiple.proofs.Searches.{Begins, KeepsDrq, Comes, goes-on, stops, lost, searched}
 
@@ -100,37 +102,48 @@ module _ {s : Scene} {n : ℕ} (e : EndedReadSector s n) where
           → endOf s n .flags .deleted ≡ isDeleted (r .mark)
           → KeepsDrq w n
           → How sector t
-      missed : NoRecord s sector t n → endOf s n .flags .missing ≡ true → How sector t
+      missed : NoRecord s sector t n
+          → endOf s n .flags .missing ≡ true
+          → endOf s n .flags .deleted ≡ endOf s t .flags .deleted
+          → How sector t
 
     pub record Ended (sector t : ℕ) : Type 0 where
       pub since : ℕ
       pub good : GoodRecords s sector t (endOf s n .regs .sr) since
       pub how : How (endOf s n .regs .sr) since
+      pub deleted : endOf s since .flags .deleted ≡ deletedAfter (endOf s t .flags .deleted) good
       -- without m it is at the first record, or at none
       pub single : isMultiple (s .byte) ≡ false → (since ≡ t) × (endOf s n .regs .sr ≡ sector)
 
     -- at once, with SR as it is
     here-ended : {sector t : ℕ} → endOf s n .regs .sr ≡ sector → How sector t → Ended sector t
+    unfolding deletedAfter
     here-ended {sector} {t} sr how =
+        let before : Bool = endOf s t .flags .deleted in
+        let at-none : (good : GoodRecords s sector t (endOf s n .regs .sr) t) × (before ≡ deletedAfter before good) =
+        subst (λ (next : ℕ). (good : GoodRecords s sector t next t) × (before ≡ deletedAfter before good)) (sym sr) (none, refl) in
         record {
           since = t;
-          good = subst (λ (next : ℕ). GoodRecords s sector t next t) (sym sr) none;
+          good = at-none .0;
           how = subst (λ (next : ℕ). How next t) (sym sr) how;
+          deleted = at-none .1;
           single = λ without. (refl, sr);
         }
 
     -- each record takes byte times, so there are no more of them than byte times
     ended : (fuel sector t : ℕ) → n < t + fuel → Begins w sector t → Ended sector t
+    unfolding deletedAfter
     ended zero sector t l b = absurd (omega (arith, upto (b .stands)))
     ended (suc fuel) sector t l b = by (ended fuel) (searched w sector t b)
       where
         by : ((sector u : ℕ) → n < u + fuel → Begins w sector u → Ended sector u) → Comes w sector t → Ended sector t
-        by after (goes-on r multiple good lasting next) =
+        by after (goes-on r multiple good lasting deleted next) =
             let rest = after ((sector + 1) % 256) (passedBy r) (omega (arith, r .id .after, r .marked .within .low)) next in
             record {
               since = rest .since;
               good = more r good (rest .good);
               how = rest .how;
+              deleted = rest .deleted ∙ ap (λ (before : Bool). deletedAfter before (rest .good)) deleted;
               single = λ without. absurd (true≢false (sym multiple ∙ without));
             }
         by after (stops r bad lasting k last-cell here crc deleted drq) =
@@ -138,9 +151,10 @@ module _ {s : Scene} {n : ℕ} (e : EndedReadSector s n) where
             let told = left-with here in
             here-ended (told .0)
             (stopped r bad (sym there ∙ last-cell) (rw there at crc) (told .1) (rw there at deleted) (subst (KeepsDrq w) there drq))
-        by after (lost k nothing here) =
+        by after (lost k nothing here deleted) =
+            let there = ends-at here in
             let told = left-with here in
-            here-ended (told .0) (missed (subst (NoRecord s sector t) (ends-at here) nothing) (told .1))
+            here-ended (told .0) (missed (subst (NoRecord s sector t) there nothing) (told .1) (rw there at deleted))
 
     -- ---- from its first search on
 
@@ -156,6 +170,19 @@ module _ {s : Scene} {n : ℕ} (e : EndedReadSector s n) where
           entry = Entry.settled (heads .hlt) (two-begins w reads-two heads) (two-enters w reads-two heads);
           stands = begins w heads;
         })
+
+    -- up to that bit 5 is off
+    waits-deleted : (k : ℕ) → k ≤ heads .begun → endOf s k .flags .deleted ≡ false
+    unfolding at
+    waits-deleted zero l = ap (λ (f : Flags). f .deleted) begun-flags
+    waits-deleted (suc k) l =
+        ap (λ (f : Flags). f .deleted) (next-flags (s .host) (loaded s) k (e .alone k (omega (arith, upto (begins w heads)))))
+        ∙ silent-deleted _ (waits-silent w heads reads-two k (omega arith)) _ _
+        ∙ waits-deleted k (omega arith)
+
+    -- and in the search that it ends in it is that of the last record before
+    pub deleted-since : endOf s (its .since) .flags .deleted ≡ deletedAfter false (its .good)
+    deleted-since = its .deleted ∙ ap (λ (before : Bool). deletedAfter before (its .good)) (waits-deleted (heads .begun) (omega arith))
 
     abbrev pub last : LastSearch s n
     last =

@@ -14,7 +14,7 @@ use Rattle.hosts.specs.Scenes.{Scene, crcError, notFound}
 use Rattle.hosts.proofs.Unready.{unready-over}
 use Rattle.multiple.specs.Multiple.{EndedMultiple, EndedReadSector, endOf, ShowsBroken, AtBroken, AtMissing, MultipleEnds, StandsAtBroken}
 use Rattle.multiple.proofs.Searches.{bad-bit}
-use Rattle.multiple.proofs.Ended.{valid, begun-flags, type-two, How, stopped, missed, its, last}
+use Rattle.multiple.proofs.Ended.{valid, begun-flags, type-two, How, stopped, missed, its, deleted-since, last}
 
 module _ {s : Scene} {n : ℕ} (e : EndedMultiple s n) where
   abbrev pub as-read : EndedReadSector s n
@@ -56,8 +56,14 @@ module _ {s : Scene} {n : ℕ} (e : EndedMultiple s n) where
             shows = shows-broken (r .mark) (crc ∙ bad-bit r broken) missing deleted;
             drq = drq;
           })
-      verdict (missed nothing missing) =
-          inr (record { no-record = nothing; missing = λ l. status-four (endOf s n) l (valid as-read) ∙ missing })
+      verdict (missed nothing missing deleted) =
+          inr
+          (record {
+            no-record = nothing;
+            missing = λ l. status-four (endOf s n) l (valid as-read) ∙ missing;
+            deleted = λ l.
+                status-deleted (endOf s n) l (valid as-read) (type-two as-read) ∙ deleted ∙ deleted-since as-read ready;
+          })
 
   -- "a multiple read that has ended with bit 3 on and bit 4 off stands at the first record whose CRC was bad, and every record
   -- before it was good": ready or not, since one that was not ready ended at once, with bit 3 off

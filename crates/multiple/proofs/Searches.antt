@@ -4,7 +4,7 @@ use mathlib.Core.Path.{_≡_, refl, sym, ap, _∙_, subst}
 use mathlib.Core.Bool.{Bool, true, false, true≢false, not}
 use mathlib.Core.List.{List}
 use mathlib.Core.Logic.{inl, inr}
-use Prim.Native.Nat.{ℕ, suc, _+_, _-_, _%_, _≤_, _<_}
+use Prim.Native.Nat.{ℕ, zero, suc, _+_, _-_, _%_, _≤_, _<_}
 use native.Mathlib.Nat.{mod-add-mod}
 use native.Mathlib.Decide.{ℕ-discrete}
 use native.Mathlib.Omega.{arith}
@@ -15,6 +15,7 @@ use Rattle.scan.specs.Marks.{byteOf, leadOf, markCrc}
 use Rattle.scan.specs.DataMarks.{markByte, isDeleted, windowOf}
 use Rattle.scan.specs.Streams.{idFrom, scanAfter, crcFrom, soughtAt}
 use Rattle.scan.specs.declared.DataMark.{DataMark}
+use Rattle.scan.specs.declared.Scan.{Scan}
 use Rattle.command.specs.Bits.{isMultiple, ibmLengths}
 use Rattle.command.specs.Commands.{jobOf}
 use Rattle.command.specs.Orders.{orderOf}
@@ -47,8 +48,9 @@ use Rattle.hosts.proofs.Searching.{reads-two, hitAt, idSeeker, id-seeks}
 use Rattle.hosts.proofs.Seeking as seeking
 use Rattle.hosts.proofs.Seeking.{Entry, SeeksIn, SearchFrom}
 use Rattle.hosts.proofs.Views.{View, viewWith, Outside}
-use Rattle.hosts.proofs.Windows.{isMet, which-mark, FirstMarkIn, cellsAfter, Opened, opened-lasts, unmarked, marked, window-bit}
-use Rattle.hosts.proofs.Working.{Working, courseOf, long, ground-track}
+use Rattle.hosts.proofs.Windows.{isMet, which-mark, FirstMarkIn, cellsAfter, Opened, opened-lasts, unmarked, unmarked-bit, marked, window-bit}
+use Rattle.hosts.proofs.Silent.{Silent, silent-deleted, Early}
+use Rattle.hosts.proofs.Working.{Working, courseOf, long, ground-track, early-at}
 use Rattle.multiple.specs.Multiple.{endOf, cellsBy, windowFrom, RecordFrom, fieldCells, GoodCrc, passedBy, NoRecord, no-match, no-mark}
 use Rattle.multiple.proofs.Cells.{viewAt, tracked, head-at, HeardId, heard, window-is, recordOf, unmarked-window, unmatched}
 
@@ -81,6 +83,7 @@ module _ {Rows : List ℕ → Type 0} {s : Scene} (w : Working Rows s ReadSector
         → isMultiple (s .byte) ≡ true
         → GoodCrc r
         → LastsUntil t (passedBy r)
+        → endOf s (passedBy r) .flags .deleted ≡ isDeleted (r .mark)
         → Begins ((sector + 1) % 256) (passedBy r)
         → Comes sector t
     -- a record, and the end: with m it is a bad one
@@ -94,10 +97,11 @@ module _ {Rows : List ℕ → Type 0} {s : Scene} (w : Working Rows s ReadSector
         → endOf s (t + k) .flags .deleted ≡ isDeleted (r .mark)
         → KeepsDrq (t + k)
         → Comes sector t
-    -- none, and the end
+    -- none, and the end: bit 5 is as it was
     lost : {a : Activity} (k : ℕ)
         → NoRecord s sector t (t + k)
         → Stands (courseOf w) t (viewAt s sector t a) k true Idle
+        → endOf s (t + k) .flags .deleted ≡ endOf s t .flags .deleted
         → Comes sector t
 
   module _ (sector t : ℕ) (b : Begins sector t) where
@@ -127,6 +131,29 @@ module _ {Rows : List ℕ → Type 0} {s : Scene} (w : Working Rows s ReadSector
 
     abbrev fifth : ℕ
     fifth = pulseTime 4 (length (s .row)) (view .ring .position)
+
+    -- it settles or searches all along, and so leaves bit 5
+    early : (n : ℕ) → Early (seeking.seekAt search n)
+    unfolding seeking.seekAt
+    early zero = by (b .entry)
+      where
+        by : {v : View} {hlt : Bool} {pulses : ℕ} {scan : Scan} {a : Activity} → Entry v hlt (Search pulses scan) a → Early a
+        by (Entry.settled on begins enters) = Early.settles
+        by Entry.begun = Early.searches
+    early (suc n) = Early.searches
+
+    seek-deleted :
+        (n : ℕ)
+        → n ≤ fifth
+        → ((k : ℕ) → k < n → hitAt view k ≡ false)
+        → endOf s (t + suc n) .flags .deleted ≡ endOf s t .flags .deleted
+    unfolding orderOf
+    seek-deleted n l none =
+        seeking.seek-bit search (λ f. f .deleted) n l none
+        (λ k m.
+        silent-deleted _
+        (early-at (courseOf w) t view (seeking.seeking search k (omega arith) (λ i h. none i (omega arith)))
+        (seeking.seek-busy search k) (w .rows) reads-two (early k)))
 
     -- ---- the first ID that matches, heard with cell q
 
@@ -243,11 +270,15 @@ module _ {Rows : List ℕ → Type 0} {s : Scene} (w : Working Rows s ReadSector
             ∙ ap (λ (f : Flags). f .crc) (seeking.hit-flags search q soon (f .none) (f .passes)))
             ∙ ap (λ (sum : ℕ). not (eqb sum 0)) closes
 
+        told-deleted : endOf s (t + (m + (size + 2))) .flags .deleted ≡ isDeleted mark
+        unfolding flagsAfter effectOf delivered addressNamed recordOver recordRead cellTaken stepped halted
+        told-deleted = ap (λ (f : Flags). f .deleted) (record-flags field)
+
         ended : follows-on field ≡ false → (isMultiple (s .byte) ≡ true → closing field ≡ 0 → ⊥) → Comes sector t
         unfolding flagsAfter effectOf delivered addressNamed recordOver recordRead cellTaken stepped halted
         ended last bad =
             stops it (λ multiple good. bad multiple (closes ∙ good)) lasting (m + (size + 2)) last-cell (record-ends field last) told-crc
-            (ap (λ (f : Flags). f .deleted) (record-flags field))
+            told-deleted
             drq
 
         comes : Comes sector t
@@ -255,9 +286,10 @@ module _ {Rows : List ℕ → Type 0} {s : Scene} (w : Working Rows s ReadSector
         comes = by (isMultiple (s .byte)) (ℕ-discrete (closing field) 0) refl
           where
             by : (m : Bool) → Dec (closing field ≡ 0) → isMultiple (s .byte) ≡ m → Comes sector t
-            by true (yes good) multiple = goes-on it multiple (sym closes ∙ good) lasting (follows multiple good)
+            by true (yes good) multiple =
+                goes-on it multiple (sym closes ∙ good) lasting (rw last-cell at told-deleted) (follows multiple good)
             by true (no bad) multiple = ended (bad-over _ (closing field) bad) (λ m. bad)
-            by false zero single =
+            by false whichever single =
                 ended (single-over _ (closing field) single) (λ m good. true≢false (sym m ∙ single))
 
       -- ---- or no data mark in its window
@@ -273,6 +305,8 @@ module _ {Rows : List ℕ → Type 0} {s : Scene} (w : Working Rows s ReadSector
               lost (suc q + windowOf mfm)
               (no-mark (its .id) (unmarked-window s (ground-track w) (long w) sector t q f none) (omega (arith, its .ends)))
               (unmarked opened none)
+              (unmarked-bit opened none (λ f. f .deleted) (silent-deleted _ Silent.nothing) (silent-deleted _ Silent.lost)
+              ∙ seek-deleted q (omega (arith, soon)) (f .none))
 
     -- ---- or no such ID before the fifth pulse
 
@@ -287,6 +321,7 @@ module _ {Rows : List ℕ → Type 0} {s : Scene} (w : Working Rows s ReadSector
         })
         refl)
         (seeking.seek-lost search none)
+        (seek-deleted fifth (omega arith) none)
       where
         head : view .ring .position ≡ positionAt (length (s .row)) (s .machine .ring .position) t
         head = head-at s (ground-track w) (long w) sector t

@@ -1,7 +1,7 @@
 -- Request b, "A bad data CRC ends a multiple read": the records that a Read Sector with m passes, one after another, and how it ends.
 -- The command, its host and which IDs match are of the crate `hosts`: `specs/Scenes.antt` and `specs/Hosts.antt`. Assumes nothing.
 use mathlib.Core.Path.{_≡_}
-use mathlib.Core.Bool.{true, false}
+use mathlib.Core.Bool.{Bool, true, false}
 use mathlib.Core.Logic.{_⊎_}
 use Prim.Native.Nat.{ℕ, suc, _+_, _%_, _≤_, _<_}
 use lib.ListN.{length, getD}
@@ -108,6 +108,12 @@ pub data GoodRecords (s : Scene) : (sector t next u : ℕ) → Type 0 where
       → GoodRecords s ((sector + 1) % 256) (passedBy r) next u
       → GoodRecords s sector t next u
 
+-- "At the second CRC cell: .. bit 5 on if F8, else off", by what the mark counts as: bit 5 after these records, and as it was before
+-- them where there is none
+unfoldable pub deletedAfter : {s : Scene} {sector t next u : ℕ} → Bool → GoodRecords s sector t next u → Bool
+deletedAfter before none = before
+deletedAfter before (more r good rest) = deletedAfter (isDeleted (r .mark)) rest
+
 -- ---- how it ends
 
 -- its first search begins in byte time t: "settle .., then begin with the first byte time that has HLT on"
@@ -162,6 +168,8 @@ pub data NoRecord (s : Scene) (sector t n : ℕ) : Type 0 where
 pub record AtMissing (s : Scene) (n : ℕ) (p : LastSearch s n) : Type 0 where
   pub no-record : NoRecord s (endOf s n .regs .sr) (p .since) n
   pub missing : (l : Lines) → notFound (endOf s n) l ≡ true
+  -- bit 5 is that of the last record, and off where there was none
+  pub deleted : (l : Lines) → deletedMark (endOf s n) l ≡ deletedAfter false (p .good)
 
 -- of every multiple read accepted with the drive ready that ends by itself: one or the other, so no bad record is hidden by the next
 abbrev pub MultipleEnds : Scene → ℕ → Type 0

@@ -8,7 +8,7 @@ use lib.ListN.{length, replicate}
 use borrow.Author.Tests.{ltb-true}
 use Rattle.crc.specs.Crc.{crcBit, crcBits, crcByte, crcOver}
 use Rattle.scan.specs.Marks.{leadOf, carriesMark, syncRun, markStep, markBytes, markCrc}
-use Rattle.scan.specs.DataMarks.{windowOf, markByte, isDeleted, dataMarkOf, dataMarkIn, dataMarkStep}
+use Rattle.scan.specs.DataMarks.{windowOf, markByte, isDeleted, densityHas, dataMarkOf, dataMarkIn, dataMarkStep}
 use Rattle.scan.specs.Ids.{idBegun, pushedOf, wholeOf, idByteStep, runIn, idCellStep, idMarkStep, idStep}
 use Rattle.scan.specs.declared.Scan.the-variants.{Gap}
 use Rattle.command.specs.Bits.{updatesTrack, loadsHead, verifiesTrack, isMultiple, settlesFirst, sideOf, sideAsked, ibmLengths, markWritten}
@@ -124,7 +124,7 @@ putting = passes 1 mfm-id preparing
 -- "the largest its activity holds in any machine grown from power-on": one reaches it
 pub reached : EachCount Reached
 unfolding crcBit putting seeking stopping settling searching scanning hearing awaiting reading hunting marking naming
-    preparing crcBits crcByte crcOver leadOf carriesMark syncRun markStep markBytes markCrc markByte isDeleted dataMarkOf
+    preparing crcBits crcByte crcOver leadOf carriesMark syncRun markStep markBytes markCrc markByte isDeleted densityHas dataMarkOf
     dataMarkIn dataMarkStep idBegun pushedOf wholeOf idByteStep runIn idCellStep idMarkStep idStep bitOf updatesTrack loadsHead verifiesTrack isMultiple settlesFirst sideOf sideAsked ibmLengths markWritten isRestore decodedOf decodedByBoth classOf jobOf
     inwardOf orderOf sizeOf fieldSize stepTimeOf settleTimeOf busyIn scanWithin countsWithin stopAct trackAfter stepAct seekDecision seekTurn
     pulseTurn stopTurn pulsesSeen sideMatches sectorMatches matchesFor afterMatch idFound searchStep searchCell windowOf windowMissed windowStep

@@ -24,6 +24,7 @@ unfoldable pub windowMissed : Seen → ℕ → ℕ → ℕ → Act
 windowMissed s left passed run =
     cond (ltb (passed + 1) (windowOf (s .mfm))) (pass s (Window left (passed + 1) run) Nothing) (pass s Idle NotFound)
 
+-- a data mark in the window: "CRC starts with it", whichever of the four was met
 unfoldable pub windowStep : Seen → ℕ → ℕ → Sought → Act
 windowStep s left passed (On run) = windowMissed s left passed run
 windowStep s left passed (Met mark) = pass s (Data left (markCrc (s .mfm) (markByte mark)) (isDeleted mark)) Nothing
@@ -38,7 +39,7 @@ windowCell s left passed run = windowStep s left passed (dataMarkStep (s .mfm) (
 unfoldable pub recordFollows : Bool → ℕ → Bool
 recordFollows multiple crc = cond (eqb crc 0) multiple false
 
--- "At the second CRC cell: bit 3 if bad, bit 5 on if F8, else off, Busy off, INTRQ."
+-- "At the second CRC cell: bit 3 if bad, bit 5 on if F8, else off, Busy off, INTRQ.": bit 5 by what the mark counts as
 unfoldable pub recordEnd : Seen → Bool → ℕ → Bool → Act
 recordEnd s multiple crc deleted =
     pass s (afterRecord (recordFollows multiple crc)) (Record deleted (not (eqb crc 0)) (recordFollows multiple crc))

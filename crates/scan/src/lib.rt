@@ -3,7 +3,7 @@ ghost use mathlib.Core.Path.{_≡_};
 ghost use mathlib.Core.Bool.{cond};
 ghost use Rattle.scan.specs.Marks.{leadOf, carriesMark, syncRun, markStep, markCrc};
 ghost use Rattle.scan.specs.Rows.{lengthWithin};
-ghost use Rattle.scan.specs.DataMarks.{dataMarkOf, dataMarkIn, dataMarkStep, markByte, isDeleted, windowOf};
+ghost use Rattle.scan.specs.DataMarks.{densityHas, metIn, dataMarkOf, dataMarkIn, dataMarkStep, markByte, isDeleted, windowOf};
 ghost use Rattle.scan.specs.Ids.{idBegun, runIn, idByteStep, idCellStep, idMarkStep, idStep};
 
 // The range of a row's length. The rows of every program follow from it.
@@ -32,10 +32,12 @@ pub enum Passed {
     Mark(u8),
 }
 
-// The data mark that was met, by its byte.
+// The data mark that was met, by its byte. F9 and FA are those of disks from FD1771 machines.
 pub enum DataMark {
     Fb,
     F8,
+    F9,
+    Fa,
 }
 
 pub enum Sought {
@@ -127,24 +129,45 @@ pub fn mark_crc(mfm: bool, byte: u8) -> u16
     }
 }
 
-fn data_mark(byte: u8) -> Sought
-    ensures { λ r. ⌜ r ≡ dataMarkOf byte ⌝ }
+// Whether a data mark is one of the density: F9 and FA are data marks in FM only.
+fn density_has(mfm: bool, mark: DataMark) -> bool
+    ensures { λ r. ⌜ r ≡ densityHas mfm mark ⌝ }
 {
-    if byte == 0xFB {
-        Sought::Met(DataMark::Fb)
-    } else if byte == 0xF8 {
-        Sought::Met(DataMark::F8)
+    match mark {
+        DataMark::Fb | DataMark::F8 => true,
+        DataMark::F9 => !mfm,
+        DataMark::Fa => !mfm,
+    }
+}
+
+fn met_in(mfm: bool, mark: DataMark) -> Sought
+    ensures { λ r. ⌜ r ≡ metIn mfm mark ⌝ }
+{
+    if density_has(mfm, mark) {
+        Sought::Met(mark)
     } else {
         Sought::On(0)
     }
 }
 
-fn data_mark_in(passed: Passed) -> Sought
-    ensures { λ r. ⌜ r ≡ dataMarkIn passed ⌝ }
+fn data_mark(mfm: bool, byte: u8) -> Sought
+    ensures { λ r. ⌜ r ≡ dataMarkOf mfm byte ⌝ }
+{
+    match byte {
+        0xFB => met_in(mfm, DataMark::Fb),
+        0xF8 => met_in(mfm, DataMark::F8),
+        0xF9 => met_in(mfm, DataMark::F9),
+        0xFA => met_in(mfm, DataMark::Fa),
+        _ => Sought::On(0),
+    }
+}
+
+fn data_mark_in(mfm: bool, passed: Passed) -> Sought
+    ensures { λ r. ⌜ r ≡ dataMarkIn mfm passed ⌝ }
 {
     match passed {
         Passed::Gap(run) => Sought::On(run),
-        Passed::Mark(byte) => data_mark(byte),
+        Passed::Mark(byte) => data_mark(mfm, byte),
     }
 }
 
@@ -152,7 +175,7 @@ fn data_mark_in(passed: Passed) -> Sought
 pub fn seek_data(mfm: bool, cell: u16, run: u8) -> Sought
     ensures { λ r. ⌜ r ≡ dataMarkStep mfm cell run ⌝ }
 {
-    data_mark_in(pass(mfm, cell, run))
+    data_mark_in(mfm, pass(mfm, cell, run))
 }
 
 pub fn mark_byte(mark: DataMark) -> u8
@@ -161,6 +184,8 @@ pub fn mark_byte(mark: DataMark) -> u8
     match mark {
         DataMark::Fb => 0xFB,
         DataMark::F8 => 0xF8,
+        DataMark::F9 => 0xF9,
+        DataMark::Fa => 0xFA,
     }
 }
 
@@ -170,6 +195,8 @@ pub fn is_deleted(mark: DataMark) -> bool
     match mark {
         DataMark::Fb => false,
         DataMark::F8 => true,
+        DataMark::F9 => true,
+        DataMark::Fa => false,
     }
 }
 

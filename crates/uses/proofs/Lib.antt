@@ -9,6 +9,7 @@ pub mod Over
 pub mod Decoding
 pub mod SectorReads
 pub mod Multiples
+pub mod ShownMarks
 pub mod Sessions
 pub mod Bytes
 pub mod Serves

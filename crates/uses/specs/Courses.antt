@@ -56,7 +56,7 @@ pub record NoErrorBit (Says : Desk → ℕ → Bool → Type 0) (d : Desk) : Typ
   pub crc : Says d crcErrorBit false
   pub not-late : Says d lostDataBit false
 
--- a read that found its sector: no error bit but Lost Data, and "bit 5 on if F8"
+-- a read that found its sector: no error bit but Lost Data, and bit 5 by what its mark counts as
 pub record FoundGood (d : Desk) (deleted : Bool) : Type 0 where
   pub unprotected : Shows d protectedBit false
   pub found : Shows d notFoundBit false

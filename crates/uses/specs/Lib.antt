@@ -4,3 +4,4 @@ pub mod Uses
 pub mod Courses
 pub mod Sessions
 pub mod Multiples
+pub mod ShownMarks

@@ -15,6 +15,7 @@ use Rattle.scan.specs.Rows.{lengthWithin}
 use Rattle.scan.specs.Streams.{MarkAt, crcFrom, idFrom}
 use Rattle.scan.specs.declared.DataMark.{DataMark}
 use Rattle.scan.specs.declared.DataMark.the-variants.{Fb, F8}
+use Rattle.scan.proofs.DataMarks.{fm-has}
 use Rattle.command.specs.Bits.{settlesFirst, isMultiple}
 use Rattle.command.specs.Commands.{decodedByBoth, decodedOf}
 use Rattle.command.specs.declared.Chip.{Chip}
@@ -38,14 +39,14 @@ use Rattle.multiple.proofs.Broken.{broken-ends}
 use Rattle.witnesses.proofs.Scenes.{id-at}
 
 -- in FM a mark just after an ID is the first in its window
-at-once :
+pub mark-at-once :
     (cells : ℕ → ℕ) (place : ℕ) (mark : DataMark)
     → MarkAt false cells place (markByte mark)
     → FirstMark false cells place mark place 1
 unfolding leadOf windowOf
-at-once cells place mark stands =
+mark-at-once cells place mark stands =
     record {
-      within = record { low = omega arith; byte = omega arith; high = omega arith; stands = stands };
+      within = record { low = omega arith; byte = omega arith; high = omega arith; of-density = fm-has mark; stands = stands };
       first = λ other b cell l m. omega (arith, m .low, m .byte);
     }
 
@@ -90,7 +91,7 @@ module _ (chip : Chip) (l : Lines) (h : Host) where
         mark = Fb;
         mark-at = 7;
         place = 1;
-        marked = at-once (cellsBy scene) 7 Fb (omega arith, refl);
+        marked = mark-at-once (cellsBy scene) 7 Fb (omega arith, refl);
       }
 
   pub second : RecordFrom scene 2 138
@@ -107,7 +108,7 @@ module _ (chip : Chip) (l : Lines) (h : Host) where
         mark = F8;
         mark-at = 145;
         place = 1;
-        marked = at-once (cellsBy scene) 145 F8 (omega arith, refl);
+        marked = mark-at-once (cellsBy scene) 145 F8 (omega arith, refl);
       }
 
   pub mark-second : second .mark ≡ F8

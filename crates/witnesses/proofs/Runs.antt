@@ -11,7 +11,7 @@ use Rattle.common.proofs.Arms.{count, Gives}
 use Rattle.crc.specs.Crc.{crcBit, crcBits, crcByte, crcOver}
 use Rattle.scan.specs.Marks.{leadOf, carriesMark, syncRun, markStep, markBytes, markCrc}
 use Rattle.scan.specs.Streams.{MarkAt, idFrom}
-use Rattle.scan.specs.DataMarks.{markByte, isDeleted, dataMarkOf, dataMarkIn, dataMarkStep, windowOf}
+use Rattle.scan.specs.DataMarks.{markByte, isDeleted, densityHas, dataMarkOf, dataMarkIn, dataMarkStep, windowOf}
 use Rattle.scan.specs.Ids.{idBegun, pushedOf, wholeOf, idByteStep, runIn, idCellStep, idMarkStep, idStep}
 use Rattle.scan.specs.Rows.{lengthWithin}
 use Rattle.command.specs.Commands.{classOf, decodedByBoth, decodedOf, jobOf, isRestore}
@@ -162,7 +162,7 @@ pub record Runs : Type 0 where
 
 pub runs : Runs
 unfolding allLow summary walked stepFrom deedOn takes loadsDr readsDr on-drq serves-from flagged-in flags-of crcBit crcBits
-    crcByte crcOver leadOf carriesMark syncRun markStep markBytes markCrc markByte isDeleted dataMarkOf dataMarkIn
+    crcByte crcOver leadOf carriesMark syncRun markStep markBytes markCrc markByte isDeleted densityHas dataMarkOf dataMarkIn
     dataMarkStep idBegun pushedOf wholeOf idByteStep runIn idCellStep idMarkStep idStep bitOf settlesFirst isMultiple
     verifiesTrack sideOf sideAsked ibmLengths markWritten isRestore loadsHead decodedOf decodedByBoth classOf jobOf inwardOf orderOf sizeOf fieldSize
     stepTimeOf settleTimeOf busyIn scanWithin countsWithin pulsesSeen sideMatches sectorMatches matchesFor afterMatch

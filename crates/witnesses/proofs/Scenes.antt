@@ -36,9 +36,12 @@ use Rattle.hosts.specs.Scenes.{Scene, loaded, SideSuits, Suits, notFound}
 use Rattle.hosts.specs.Tracks.{passing}
 use Rattle.hosts.proofs.LowRows.{allLow, low-by}
 use Rattle.hosts.proofs.Courses.{ends-once}
-use Rattle.in_time.specs.Demand3.{InTimePremises, streamOf, OnRing, FirstWhole, windowCells, MarkInWindow}
+use Rattle.in_time.specs.Demand3.{InTimePremises, streamOf, OnRing, FirstWhole, windowCells, f9, MarkInWindow}
 use Rattle.in_time.proofs.Demand3.{first-once, whole-ring, in-time}
 use Rattle.in_time.proofs.Scenes.{reader, reader-quiet, sceneBy, asked-by, scene-asked, fresh, fresh-accepts}
+use Rattle.multiple.specs.Multiple.{EndedReadSector}
+use Rattle.data_marks.specs.ShownMarks.{MarkShown}
+use Rattle.data_marks.proofs.ShownMarks.{mark-shown}
 use Rattle.witnesses.proofs.LastBusy.{ends-after}
 use Rattle.witnesses.proofs.Runs.{id-side-0, id-side-1, outside, runs}
 
@@ -117,7 +120,7 @@ outside-window =
 -- ---- E and C
 
 -- An ID of side 1 at cell 100, which passes while the head settles and has no data mark; one of side 0 at cell 469, where the
--- search begins, with no data mark in its window either; and one of side 1 at cell 476, whose data mark is in its window. So a
+-- search begins, with no data mark in its window either; and one of side 1 at cell 476, whose data mark, F9, is in its window. So a
 -- machine that did not settle, or did not look at the side, would end with Record Not Found.
 abbrev three-ids : List ℕ
 three-ids =
@@ -127,7 +130,7 @@ three-ids =
     ++ id-side-0
     ++ id-side-1
     ++ replicate 25 0x00
-    ++ (0x1FB ∷ [])
+    ++ (0x1F9 ∷ [])
     ++ replicate 1539 0x00
 
 -- 8E asks for side 1, on both chips
@@ -181,8 +184,8 @@ module _ (chip : Chip) where
   settled-mark =
       record {
         a = 39;
-        byte = 0xFB;
-        data-mark = inl refl;
+        byte = 0xF9;
+        data-mark = f9 refl refl;
         stands = (omega arith, refl);
         after = omega arith;
         within = omega arith;
@@ -215,3 +218,16 @@ module _ (chip : Chip) where
           λ l. not-eq-not .0 (λ told. settled-served (says .exactly l .0 told)),
         ),
       )
+
+  -- and shows which mark it met
+  pub settled-shows-mark : (n : ℕ) × EndedReadSector settled n × MarkShown settled n
+  settled-shows-mark =
+      let (asked, (n, ends, soon, raised, found)) = settled-side-1 in
+      let over : EndedReadSector settled n =
+      record {
+        reads = asked .reads;
+        accepted = asked .accepted;
+        alone = λ k l. asked .alone k (ends .busy k l);
+        ends = ends;
+      } in
+      (n, over, mark-shown settled n over (asked .ready) (settled .lines) (found (settled .lines)))

@@ -3,17 +3,18 @@
 use std::mem;
 
 use super::step::{Call, Outcome, Step};
-use crate::bench::Bench;
+use crate::bench::{self, Bench};
 use crate::chip::Chip;
 use crate::density::Density;
 use crate::machine::{Direction, Machine, SHORTEST_TRACK};
 use crate::number;
 use crate::script::Line;
+use crate::viewer;
 
 /// What a line prints.
 #[derive(Debug, PartialEq, Eq)]
 pub enum Printed {
-    /// The numbers of a line that shows the state.
+    /// The numbers of a line that shows the state, or what the viewer finds.
     Numbers(Vec<u16>),
     Text(String),
 }
@@ -34,6 +35,9 @@ impl Desk<'_> {
             (b'B', &[]) => self.byte_time(),
             (b'G', &[limit]) => self.run(limit),
             (b'N' | b'X' | b'Y', _) => self.bench.carry_out(line).map(|_| Vec::new())?,
+            (b'Q', &[density, track, sector]) => {
+                return self.view(density, track, sector).map(Printed::Numbers);
+            }
             _ => return self.bench.carry_out(line).map(Printed::Text),
         };
         numbers.extend(self.state());
@@ -52,6 +56,7 @@ impl Desk<'_> {
             before,
             lines: self.bench.lines,
             row: &self.bench.current,
+            other_row: &self.bench.other,
             right: &right,
         };
         let mut outcome = (self.hand)(&step).unwrap_or(right);
@@ -80,6 +85,15 @@ impl Desk<'_> {
         ];
         columns.extend(looked.side_output.map(u16::from));
         columns
+    }
+
+    /// The viewer; the machine stays as it is.
+    fn view(&mut self, density: u16, track: u16, sector: u16) -> Option<Vec<u16>> {
+        let wanted = bench::wanted_of(density, track, sector)?;
+        let machine = self.take();
+        let mut right = Outcome::of(number::DONE, machine.clone());
+        right.show_view(viewer::view(&self.bench.current, &self.bench.other, wanted));
+        Some(self.meet(Call::View(wanted), &machine, right).viewed)
     }
 
     /// The bench does it, rows and all.

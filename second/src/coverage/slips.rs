@@ -8,6 +8,7 @@ mod formatting;
 mod leave;
 mod length_flag;
 mod multiple_read;
+mod old_marks;
 mod power_on;
 mod reading;
 mod refusing;
@@ -19,12 +20,13 @@ mod status;
 mod stepping;
 mod turn;
 mod verifying;
+mod viewing;
 mod writing;
 
 use super::step::{Outcome, Step};
 
-/// All subjects, in the order of document 01; after them those of requests i and b.
-pub const SUBJECTS: [&Subject; 17] = [
+/// All subjects, in the order of document 01; after them those of requests i, b and f.
+pub const SUBJECTS: [&Subject; 19] = [
     &ring::SUBJECT,
     &power_on::SUBJECT,
     &refusing::SUBJECT,
@@ -42,6 +44,8 @@ pub const SUBJECTS: [&Subject; 17] = [
     &sides::SUBJECT,
     &length_flag::SUBJECT,
     &multiple_read::SUBJECT,
+    &old_marks::SUBJECT,
+    &viewing::SUBJECT,
 ];
 
 pub struct Subject {

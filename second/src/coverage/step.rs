@@ -7,6 +7,7 @@ use crate::lines::Lines;
 use crate::machine::{Direction, Machine};
 use crate::number;
 use crate::status::StatusType;
+use crate::viewer::{View, Wanted};
 
 #[derive(Clone, Copy, Debug, PartialEq, Eq)]
 pub enum Call {
@@ -26,6 +27,8 @@ pub enum Call {
     },
     /// The status byte that a line shows.
     Look,
+    /// The viewer, which is lent both rows and no machine.
+    View(Wanted),
 }
 
 /// What a call gives and what it leaves; a part that it does not have is as `of` makes it.
@@ -42,6 +45,8 @@ pub struct Outcome {
     pub goes_on: bool,
     /// The side output that a line shows; of a 1793 it shows none.
     pub side_output: Option<u8>,
+    /// What a line shows of the viewer: its number, how many cells it finds, and the cells.
+    pub viewed: Vec<u16>,
 }
 
 /// A call as the machine meets it.
@@ -51,6 +56,8 @@ pub struct Step<'a> {
     pub lines: Lines,
     /// The row that is lent.
     pub row: &'a [u16],
+    /// The row that the viewer is lent beside it.
+    pub other_row: &'a [u16],
     /// What comes of it in the right machine.
     pub right: &'a Outcome,
 }
@@ -66,7 +73,13 @@ impl Outcome {
             cell: 0,
             goes_on: false,
             side_output: None,
+            viewed: Vec::new(),
         }
+    }
+
+    pub fn show_view(&mut self, view: View) {
+        self.viewed = vec![u16::from(view.number), view.cells.len() as u16];
+        self.viewed.extend_from_slice(view.cells);
     }
 
     /// The command ends here by itself.
@@ -255,6 +268,16 @@ impl Step<'_> {
     pub fn search_instead(&self, search: Search, cell: u16) -> Outcome {
         let mut machine = self.before.clone();
         machine.activity = Activity::Searching(search);
+        self.read_by(machine, cell)
+    }
+
+    /// What this byte time would be over another cell.
+    pub fn over(&self, cell: u16) -> Outcome {
+        self.read_by(self.before.clone(), cell)
+    }
+
+    /// The machine takes the cell for another, and writes nothing.
+    fn read_by(&self, machine: Machine, cell: u16) -> Outcome {
         let outcome = self.passed_by(machine, cell, self.lines);
         Outcome {
             cell: self.cell(),

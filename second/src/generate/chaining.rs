@@ -10,8 +10,6 @@ const MOST_ROUNDS: usize = 300;
 const APART: usize = 185;
 /// Byte times from the end of a record in which the first byte of the next one comes.
 const UP_TO_NEXT: usize = 60;
-/// The bits in which the two data marks differ.
-const OTHER_MARK: u8 = 0xFB ^ 0xF8;
 
 /// Commands with m, and how they are served.
 const COMMANDS: [(u8, Host); 9] = [
@@ -92,11 +90,11 @@ impl Generator {
 
     /// Normal records and deleted ones take turns.
     fn lay_chain(&mut self, place: usize, first: u8, good: usize, end: End) {
-        let mut mark = self.random.pick(&[0xF8, 0xF8, 0xFB]);
+        let mut deleted = self.random.pick(&[true, true, false]);
         for step in 0..=good {
             let number = first.wrapping_add(step as u8);
             let sector = Sector {
-                mark,
+                mark: self.data_mark_for(deleted),
                 ..self.short_sector(number)
             };
             let cells = if step < good {
@@ -105,7 +103,7 @@ impl Generator {
                 self.end_cells(end, sector)
             };
             self.lay_cells(place + APART * step, &cells);
-            mark ^= OTHER_MARK;
+            deleted = !deleted;
         }
     }
 

@@ -7,8 +7,8 @@ use crate::field::{self, LARGEST_CELL};
 /// Cells above 511; but for the bits above 255 they look like a gap or a mark.
 const REFUSED_CELLS: [u16; 6] = [0x200, 0x24E, 0x2FF, 0x3FE, 0x8000, 0xFFFF];
 /// Flagged cells, and plain ones that only look like them.
-const OTHER_CELLS: [u16; 10] = [
-    0x100, 0x1FE, 0x1FE, 0x1A1, 0x1A1, 0x1FB, 0x1FF, 0xFE, 0xA1, 0xFF,
+const OTHER_CELLS: [u16; 12] = [
+    0x100, 0x1FE, 0x1FE, 0x1A1, 0x1A1, 0x1F9, 0x1FA, 0x1FB, 0x1FF, 0xFE, 0xA1, 0xFF,
 ];
 
 /// A cell of the row that a scene has changed for a while.

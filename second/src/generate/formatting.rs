@@ -1,6 +1,7 @@
 // The bytes that a host loads while Write Track formats a track.
 
 use super::Generator;
+use crate::data_mark::DataMark;
 use crate::density::Density;
 
 const CRC_BYTE: u8 = 0xF7;
@@ -31,7 +32,8 @@ impl Generator {
         bytes.extend([self.plan.track, self.plan.side, sector, code]);
         bytes.extend([CRC_BYTE, CRC_BYTE]);
         bytes.resize(bytes.len() + 12, 0x4E);
-        bytes.extend(self.format_mark(if sector % 4 == 3 { 0xF8 } else { 0xFB }));
+        let mark = DataMark::ALL[usize::from(sector % 4)];
+        bytes.extend(self.format_mark(mark.byte()));
         bytes.resize(bytes.len() + 128, 0xE5);
         bytes.extend([CRC_BYTE, CRC_BYTE]);
         bytes

@@ -50,29 +50,26 @@ impl Generator {
     }
 
     /// A data mark at the window's end or just past it, at times with another mark before it; a few
-    /// bytes of its record.
+    /// bytes of its record, and a view of it.
     pub fn window_scene(&mut self) {
         let window = self.plan.density.window();
         let number = self.random.byte();
         let sector = Sector {
-            mark: self.random.pick(&[0xFB, 0xF8]),
+            mark: self.any_data_mark(),
             mark_at: self.random.pick(&[window, window + 1]),
             ..self.short_sector(number)
         };
         let mut cells = self.sector_cells(sector);
         if self.random.one_in(2) {
-            let mark = self.random.pick(&[0xFE, 0xFC, 0xFA]);
+            let mark = self.random.pick(&[0xFE, 0xFC]);
             let other = field::mark_cells(self.plan.density, mark);
             layout::put(&mut cells, field::id_length(self.plan.density) + 9, &other);
         }
-        let place = self.random.below(self.plan.length);
-        self.lay_cells(place, &cells);
-        self.ask_for(number);
-        self.set_wires(READY | HEAD_LOADED);
-        self.put_head(place);
+        self.lay_before_head(number, &cells);
         self.command(0x80);
         self.serve(Host::Prompt, 4);
         self.end_command();
+        self.view_sector(number);
     }
 
     /// Read Address of an ID some of whose cells are flagged, or whose CRC is bad.

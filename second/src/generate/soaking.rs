@@ -1,8 +1,9 @@
 // The scenes of a soak, and Write Track by a host that comes often.
 
 use super::chaining::CHAINS;
+use super::commands::sector_commands;
 use super::timing::{BEGINNINGS, RECORDS};
-use super::turns::SHORT_SCENES;
+use super::turns::{in_turn, SHORT_SCENES};
 use super::{accepting, forcing, Generator, HEAD_LOADED, READY};
 
 /// The longest run of a host that looks at DRQ often.
@@ -12,12 +13,15 @@ const SHORT_RUN: usize = 4;
 const TYPE_ONE_TURNS: u64 = 6;
 
 impl Generator {
-    /// What some scripts in a row must meet completely: each Type I command, half of a script's on
-    /// each chip. Of the others there are fewer, and chance gives them all.
+    /// What some scripts in a row must meet completely: each sector command on each chip, and each
+    /// Type I command, half of a script's on each chip. Of the others there are fewer, and chance
+    /// gives them all.
     pub fn take_soaking_turns(&mut self, seed: u64) {
+        self.command_stretch(in_turn(&sector_commands(), seed));
         for turn in 0..TYPE_ONE_TURNS {
             if turn == TYPE_ONE_TURNS / 2 {
                 self.change_chip();
+                self.command_stretch(in_turn(&sector_commands(), seed));
             }
             let number = seed.wrapping_mul(TYPE_ONE_TURNS).wrapping_add(turn);
             self.command_stretch((number % 0x80) as u8);
@@ -27,7 +31,7 @@ impl Generator {
     /// Most scenes are long waits, the others of every kind. Whole tracks are formatted here
     /// alone, since that takes thousands of lines.
     pub fn soaking_scene(&mut self) {
-        match self.random.below(88) {
+        match self.random.below(94) {
             0 => self.new_ring(),
             1 => {
                 let rounds = 3 * self.plan.length;
@@ -60,6 +64,7 @@ impl Generator {
                 scene(self);
             }
             41..=43 => self.side_scene(),
+            44..=49 => self.data_mark_scene(),
             _ => self.stretching_scene(),
         }
     }

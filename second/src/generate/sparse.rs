@@ -1,6 +1,6 @@
 // Tracks that are mostly gap, so that most byte times of a search on them are uneventful.
 
-use super::Generator;
+use super::{Generator, Sector};
 use crate::field;
 use crate::layout;
 
@@ -12,7 +12,9 @@ impl Generator {
     /// ring's ends. The gap may be of bytes that would be marks if they were flagged.
     pub fn lay_sparse_track(&mut self) {
         let gap = layout::gap(self.plan.density);
-        let filler = self.random.pick(&[gap, gap, gap, 0, 0xA1, 0xFE, 0xFB]);
+        let filler = self
+            .random
+            .pick(&[gap, gap, gap, 0, 0xA1, 0xFE, 0xF9, 0xFA, 0xFB]);
         let mut track = vec![filler; self.plan.length];
         for _ in 0..self.random.pick(&[0, 1, 2, 3, 6, 12]) {
             let piece = self.sparse_piece();
@@ -35,7 +37,8 @@ impl Generator {
 
     fn sparse_piece(&mut self) -> Vec<u16> {
         let density = self.plan.density;
-        let mark = self.random.pick(&[0xFE, 0xFE, 0xFB, 0xF8, 0xFC]);
+        let data_mark = self.any_data_mark();
+        let mark = self.random.pick(&[0xFE, 0xFE, data_mark, data_mark, 0xFC]);
         let number = self.plan.first_sector.wrapping_add(self.random.byte() % 4);
         let mut id = self.short_id(number);
         match self.random.below(5) {
@@ -47,7 +50,10 @@ impl Generator {
                 id
             }
             3 => id,
-            _ => self.sector_cells(self.short_sector(number)),
+            _ => self.sector_cells(Sector {
+                mark: data_mark,
+                ..self.short_sector(number)
+            }),
         }
     }
 }

@@ -34,8 +34,8 @@ pub const RECORDS: [(u8, usize); 16] = [
 ];
 
 impl Generator {
-    /// A sound record of some length, its mark well inside the window or at its end or just past
-    /// it, read or written by a host that is always in time.
+    /// A sound record of some length, deleted or normal, its mark well inside the window or at its
+    /// end or just past it, read or written by a host that is always in time.
     pub fn record_scene(&mut self, record: (u8, usize)) {
         let (byte, size) = record;
         let window = self.plan.density.window();
@@ -45,8 +45,10 @@ impl Generator {
         };
         let number = self.random.byte();
         let place = self.random.below(self.plan.length);
+        let deleted = self.random.one_in(2);
         let sector = Sector {
             size,
+            mark: self.data_mark_for(deleted),
             mark_at,
             ..self.short_sector(number)
         };

@@ -1,9 +1,9 @@
 // What every script begins with, so that some hundred seeds in a row meet all of it.
 
-use super::{accepting, chaining, commands, forcing, refusing, timing, Generator};
+use super::{accepting, chaining, commands, data_marks, forcing, refusing, timing, Generator};
 
 /// Scenes of some lines each.
-pub const SHORT_SCENES: [fn(&mut Generator); 19] = [
+pub const SHORT_SCENES: [fn(&mut Generator); 22] = [
     Generator::side_output_scene,
     Generator::side_scene,
     Generator::side_scene,
@@ -18,6 +18,9 @@ pub const SHORT_SCENES: [fn(&mut Generator); 19] = [
     Generator::vain_scene,
     Generator::fifth_pulse_scene,
     Generator::window_scene,
+    Generator::two_marks_scene,
+    Generator::two_marks_scene,
+    Generator::overwriting_scene,
     Generator::odd_address_scene,
     Generator::late_write_scene,
     Generator::read_ends_scene,
@@ -30,12 +33,13 @@ const LOADINGS: u64 = 7;
 const VIEW_ONE_IN: u64 = 4;
 
 impl Generator {
-    /// Each byte that is no command, on both chips. On one of them each Type I command and each
-    /// sector command; each length read and written; each command that settles; each Force
-    /// Interrupt in each activity. On the other each chain of records; each command with DRQ, INTRQ
-    /// and each condition off and on; and every short scene.
+    /// Each byte that is no command and each data mark with each CRC, on both chips. On one of them
+    /// each Type I command and each sector command; each length read and written; each command that
+    /// settles; each Force Interrupt in each activity. On the other each chain of records; each
+    /// command with DRQ, INTRQ and each condition off and on; and every short scene.
     pub fn take_turns(&mut self, seed: u64) {
         self.load_no_command(seed);
+        self.marked_record_scene(in_turn(&data_marks::marked_records(), seed));
         let type_one: Vec<u8> = (0x00..0x80).collect();
         self.stepping_scene(in_turn(&type_one, seed));
         self.sector_scene(in_turn(&commands::sector_commands(), seed));
@@ -45,6 +49,7 @@ impl Generator {
         self.forcing_scene(in_turn(&forcing::pairs(), seed));
         self.change_chip();
         self.load_no_command(seed);
+        self.marked_record_scene(in_turn(&data_marks::marked_records(), seed));
         self.chain_scene(in_turn(&chaining::CHAINS, seed));
         for turn in 0..LOADINGS {
             let number = seed.wrapping_mul(LOADINGS).wrapping_add(turn);
@@ -64,6 +69,6 @@ impl Generator {
 }
 
 /// The seed's choice: seeds in a row go through all of them.
-fn in_turn<T: Copy>(choices: &[T], seed: u64) -> T {
+pub fn in_turn<T: Copy>(choices: &[T], seed: u64) -> T {
     choices[(seed % choices.len() as u64) as usize]
 }

@@ -24,12 +24,17 @@ impl Generator {
         }
     }
 
-    /// A sector that may be on either row, looked for with the rows in either order.
+    /// A sector that may be on the current row.
     fn view_some_sector(&mut self) {
         let mut sectors = self.sectors_on_track();
         sectors.push(self.plan.first_sector);
         sectors.push(self.random.byte());
         let sector = self.random.pick(&sectors);
+        self.view_sector(sector);
+    }
+
+    /// A sector is looked for with the rows in either order, and now and then in the wrong density.
+    pub fn view_sector(&mut self, sector: u8) {
         let wrong_density = u8::from(self.random.one_in(10));
         let density = u8::from(self.plan.density == Density::Mfm) ^ wrong_density;
         let swap = self.random.one_in(2);
@@ -50,15 +55,18 @@ impl Generator {
         self.set_cells(place, &[cell]);
     }
 
-    /// The other row is shorter or longer for a while; the two lengths may differ.
+    /// The other row is shorter or longer for a while, first out of range and then in range; the
+    /// two lengths may differ.
     fn view_with_other_length(&mut self) {
-        let other = self.random.pick(&[0, 0x7FF, 0x800, 0x1900]);
         self.change_rows();
-        self.say(format!("K {:X}", other));
-        self.view_some_sector();
-        self.change_rows();
-        self.view_some_sector();
-        self.change_rows();
+        let out = self.random.pick(&[0, 0x7FF]);
+        for other in [out, self.random.pick(&[0x800, 0x1900])] {
+            self.say(format!("K {:X}", other));
+            self.view_some_sector();
+            self.change_rows();
+            self.view_some_sector();
+            self.change_rows();
+        }
         self.say(format!("K {:X}", self.plan.length));
         self.change_rows();
     }

@@ -1,6 +1,7 @@
 // What the generator's scripts are like, and that together they meet everything they should.
 
 mod chips;
+mod data_marks;
 mod met;
 mod multiple;
 mod runs;
@@ -15,6 +16,8 @@ use second::generate;
 const SEEDS: u64 = 300;
 /// So many of them are many.
 const MANY: usize = 10;
+/// And so many are some.
+const SOME: usize = 3;
 const ACTIVITIES: [&str; 11] = [
     "Idle",
     "Stepping",
@@ -92,7 +95,7 @@ const EVENTS: [&str; 33] = [
     "WritingTrack to Idle",
 ];
 /// Events that must be met in each density.
-const DENSITY_EVENTS: [&str; 15] = [
+const DENSITY_EVENTS: [&str; 13] = [
     "read 128",
     "read 256",
     "read 512",
@@ -101,8 +104,6 @@ const DENSITY_EVENTS: [&str; 15] = [
     "write 256",
     "write 512",
     "write 1024",
-    "mark at the window's end",
-    "mark past the window's end",
     "not found in AwaitingDataMark",
     "not found in Searching",
     "not found in Stepping",
@@ -177,6 +178,14 @@ fn loadings() -> Vec<String> {
 #[test]
 fn many_scripts_load_every_command_in_every_state() {
     assert_eq!(met_by_fewer(loadings(), MANY), Vec::<String>::new());
+}
+
+#[test]
+fn some_scripts_meet_every_data_mark() {
+    assert_eq!(
+        met_by_fewer(data_marks::wanted(), SOME),
+        Vec::<String>::new()
+    );
 }
 
 #[test]

@@ -2,8 +2,9 @@
 
 use std::collections::BTreeSet;
 
-use second::activity::Activity;
-use second::bench::Bench;
+use crate::data_marks;
+use second::activity::{Activity, RecordRead, Window};
+use second::bench::{self, Bench};
 use second::chip::Chip;
 use second::command::Command;
 use second::density::Density;
@@ -26,8 +27,9 @@ struct Before {
     name: &'static str,
     /// A record is being read with m.
     reads_multiple: bool,
-    /// Cells that have passed in the window after an ID.
-    in_window: usize,
+    window: Option<Window>,
+    /// The record whose second CRC cell passes now.
+    ending: Option<RecordRead>,
     position: u16,
     data: u8,
     data_request: bool,
@@ -46,9 +48,15 @@ impl Before {
                 Activity::ReadingRecord(read) => read.command.multiple(),
                 _ => false,
             },
-            in_window: match &machine.activity {
-                Activity::AwaitingDataMark(window) => window.passed.len(),
-                _ => 0,
+            window: match &machine.activity {
+                Activity::AwaitingDataMark(window) => Some(window.clone()),
+                _ => None,
+            },
+            ending: match &machine.activity {
+                Activity::ReadingRecord(read) if is_ending(read, machine.density) => {
+                    Some(read.clone())
+                }
+                _ => None,
             },
             position: machine.position,
             data: machine.data,
@@ -69,7 +77,7 @@ pub fn chip_name(chip: Chip) -> &'static str {
     }
 }
 
-fn density_name(density: Density) -> &'static str {
+pub fn density_name(density: Density) -> &'static str {
     match density {
         Density::Fm => "FM",
         Density::Mfm => "MFM",
@@ -87,6 +95,10 @@ impl Met {
 
     fn note(&mut self, key: String) {
         self.keys.insert(key);
+    }
+
+    fn note_all(&mut self, keys: Vec<String>) {
+        self.keys.extend(keys);
     }
 
     /// Watches a script work this bench.
@@ -156,6 +168,10 @@ impl Met {
             (b'R', &[3]) if machine.data_request => self.note("DRQ served by a read".to_string()),
             (b'W', &[3, _]) if machine.data_request => {
                 self.note("DRQ served by a load".to_string());
+            }
+            (b'Q', &[density, track, sector]) => {
+                let wanted = bench::wanted_of(density, track, sector);
+                self.note_all(wanted.map_or(Vec::new(), |it| data_marks::viewed(bench, it)));
             }
             _ => {}
         }
@@ -262,6 +278,12 @@ impl Met {
     fn note_byte_time(&mut self, before: &Before, bench: &Bench) {
         let machine = &bench.machine;
         let name = machine.activity.name();
+        if let Some(ending) = &before.ending {
+            let mut record = ending.clone();
+            let last = bench.current[usize::from(before.position)];
+            record.field.push(field::byte_of(last));
+            self.note_all(data_marks::ended(&record, machine));
+        }
         if before.name != name {
             self.note(format!("{} to {}", before.name, name));
             self.note_change(before, bench);
@@ -314,13 +336,13 @@ impl Met {
 
     fn note_change(&mut self, before: &Before, bench: &Bench) {
         let machine = &bench.machine;
-        let density = density_name(machine.density);
         match &machine.activity {
             Activity::ReadingRecord(read) => {
                 self.note_record("read", read.size, read.command, machine);
-                if before.in_window + 1 == machine.density.window() {
-                    self.note(format!("mark at the window's end {}", density));
-                }
+                let window = before.window.as_ref();
+                self.note_all(
+                    window.map_or(Vec::new(), |it| data_marks::found(it, read.mark, bench)),
+                );
             }
             Activity::WritingRecord(write) => {
                 self.note_record("write", write.size, write.command, machine);
@@ -356,8 +378,8 @@ impl Met {
         if before.name == "ReadingRecord" && machine.status.crc_error {
             self.note(format!("bad data CRC {}", density));
         }
-        if before.name == "AwaitingDataMark" && mark_is_next(bench) {
-            self.note(format!("mark past the window's end {}", density));
+        if let Some(window) = &before.window {
+            self.note_all(data_marks::missed(window, bench));
         }
     }
 
@@ -366,11 +388,11 @@ impl Met {
         let (chip, density) = (chip_name(machine.chip), density_name(machine.density));
         let (good, bit_3) = (self.records, u8::from(machine.status.crc_error));
         if before.reads_multiple {
-            let mark = ["FB", "F8"][usize::from(machine.status.deleted)];
+            let kind = ["normal", "deleted"][usize::from(machine.status.deleted)];
             let drq = u8::from(machine.data_request);
             self.note(format!(
                 "m: {} good, then {} broken {}",
-                good, mark, density
+                good, kind, density
             ));
             self.note(format!("m: broken, {}, DRQ {}", chip, drq));
             self.note(format!("m: broken, SR {}", machine.sector));
@@ -379,6 +401,11 @@ impl Met {
             self.note(format!("m: not found, {}, bit 3 {}", chip, bit_3));
         }
     }
+}
+
+/// Of the record all cells have passed but the second of its CRC.
+fn is_ending(read: &RecordRead, density: Density) -> bool {
+    read.field.len() + 1 == field::mark_length(density) + read.size + 2
 }
 
 /// A side, or that it is none that a command can ask for.
@@ -401,14 +428,4 @@ fn conditions_on(machine: &Machine) -> Vec<&'static str> {
         on.push("no condition");
     }
     on
-}
-
-/// Whether the next cell to pass completes a data mark.
-fn mark_is_next(bench: &Bench) -> bool {
-    let length = bench.current.len();
-    let next = usize::from(bench.machine.position);
-    let four: Vec<u16> = (0..4)
-        .map(|offset| bench.current[(next + length - 3 + offset) % length])
-        .collect();
-    field::data_mark_at_end(bench.machine.density, &four).is_some()
 }

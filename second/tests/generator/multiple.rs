@@ -19,10 +19,10 @@ pub fn wanted() -> Vec<String> {
     keys
 }
 
-/// A broken record of either mark after so many good ones.
+/// A broken record, normal or deleted, after so many good ones.
 fn broken_in(density: &str) -> Vec<String> {
-    let chains = (0..=MOST_GOOD).flat_map(|good| ["FB", "F8"].map(|mark| (good, mark)));
+    let chains = (0..=MOST_GOOD).flat_map(|good| ["normal", "deleted"].map(|kind| (good, kind)));
     chains
-        .map(|(good, mark)| format!("m: {} good, then {} broken {}", good, mark, density))
+        .map(|(good, kind)| format!("m: {} good, then {} broken {}", good, kind, density))
         .collect()
 }

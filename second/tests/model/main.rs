@@ -1,9 +1,10 @@
 // The tests of the controller: document 01's cases and refusals, the decided open points, and the
-// two chips.
+// requests of document 02.
 
 mod calls;
 mod cases;
 mod chips;
+mod data_marks;
 mod desk;
 mod multiple;
 mod reading;

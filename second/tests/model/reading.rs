@@ -90,7 +90,7 @@ fn only_the_first_data_mark_counts() {
 #[test]
 fn other_marks_in_the_window_are_passed_over() {
     for density in BOTH {
-        for mark in [0xFE, 0xFA, 0xF9, 0xFC] {
+        for mark in [0xFE, 0xFC, 0xFD] {
             let mut desk = desk_with_sectors(density, &[0xFB]);
             desk.put(101, &field::mark_cells(density, mark));
             desk.command(0x80);
@@ -161,7 +161,7 @@ fn record_not_found_leaves_drq() {
 
 #[test]
 fn a_window_without_data_mark_leaves_drq_too() {
-    let mut desk = desk_with_sectors(Fm, &[0xFB, 0xFA]);
+    let mut desk = desk_with_sectors(Fm, &[0xFB, 0xFC]);
     desk.command(0x90);
     while !desk.machine.interrupt_request {
         desk.byte_time();

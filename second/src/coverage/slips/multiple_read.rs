@@ -6,6 +6,7 @@ use crate::chip::Chip;
 use crate::command::Name;
 use crate::coverage::step::{Outcome, Step};
 use crate::crc;
+use crate::data_mark::DataMark::{self, F8, F9, FA, FB};
 use crate::density::Density;
 use crate::field;
 
@@ -37,8 +38,10 @@ const SENTENCES: &[Sentence] = &[
             slip("not on the 1797", |step| is_of(step, Chip::Wd1797), go_on),
             slip("not in FM", |step| is_in(step, Density::Fm), go_on),
             slip("not in MFM", |step| is_in(step, Density::Mfm), go_on),
-            slip("not with FB", breaks_normal, go_on),
-            slip("not with F8", breaks_deleted, go_on),
+            slip("not with F8", |step| breaks_with(step, F8), go_on),
+            slip("not with F9", |step| breaks_with(step, F9), go_on),
+            slip("not with FA", |step| breaks_with(step, FA), go_on),
+            slip("not with FB", |step| breaks_with(step, FB), go_on),
             slip("not with Lost Data", breaks_with_loss, go_on),
             slip("not with DRQ off", breaks_served, go_on),
             slip("a good one too", reading::goes_on, end_after_good),
@@ -75,8 +78,26 @@ const SENTENCES: &[Sentence] = &[
         says: "At the end of the Read operation, the type of Data Address Mark encountered in the \
                data field is recorded in the Status Register (Bit 5) (004)",
         slips: &[
-            slip("not if F8 has a bad CRC", breaks_deleted, leave::deleted),
-            slip("not if FB has a bad CRC", breaks_normal, leave::deleted),
+            slip(
+                "not if F8 has a bad CRC",
+                |step| breaks_with(step, F8),
+                leave::deleted,
+            ),
+            slip(
+                "not if F9 has a bad CRC",
+                |step| breaks_with(step, F9),
+                leave::deleted,
+            ),
+            slip(
+                "not if FA has a bad CRC",
+                |step| breaks_with(step, FA),
+                leave::deleted,
+            ),
+            slip(
+                "not if FB has a bad CRC",
+                |step| breaks_with(step, FB),
+                leave::deleted,
+            ),
         ],
     },
 ];
@@ -107,12 +128,8 @@ fn is_in(step: &Step, density: Density) -> bool {
     breaks(step) && step.before.density == density
 }
 
-fn breaks_deleted(step: &Step) -> bool {
-    breaks(step) && step.right.machine.status.deleted
-}
-
-fn breaks_normal(step: &Step) -> bool {
-    breaks(step) && !step.right.machine.status.deleted
+fn breaks_with(step: &Step, mark: DataMark) -> bool {
+    breaks(step) && reading::ends_record_of(step, mark)
 }
 
 fn breaks_with_loss(step: &Step) -> bool {
@@ -128,7 +145,7 @@ fn breaks_at_255(step: &Step) -> bool {
 }
 
 /// The command goes on as after a good record.
-fn go_on(step: &Step, wrong: &mut Outcome) {
+pub fn go_on(step: &Step, wrong: &mut Outcome) {
     if let Some(read) = reading::record(step) {
         wrong.machine.interrupt_request = false;
         wrong.machine.activity = wrong.machine.end_record(read.command);
@@ -191,7 +208,8 @@ fn will_break(step: &Step) -> bool {
 }
 
 fn end_early(step: &Step, wrong: &mut Outcome) {
-    wrong.machine.status.deleted = reading::record(step).map_or(false, |read| read.deleted);
+    let mark = reading::record(step).map(|read| read.mark);
+    wrong.machine.status.deleted = mark.map_or(false, DataMark::is_deleted);
     wrong.machine.status.crc_error = true;
     wrong.end();
 }

@@ -4,6 +4,7 @@ use super::{leave, slip, turn, Sentence, Subject};
 use crate::activity::{Activity, AddressField, RecordRead, Search, Window};
 use crate::command::Name;
 use crate::coverage::step::{Outcome, Step};
+use crate::data_mark::DataMark;
 use crate::density::Density;
 use crate::field;
 
@@ -35,12 +36,12 @@ const SENTENCES: &[Sentence] = &[
         slips: &[
             slip(
                 "31 served",
-                |step| has_mark_next(step, Density::Fm),
+                |step| misses_next_mark(step, Density::Fm),
                 wait_longer,
             ),
             slip(
                 "44 served",
-                |step| has_mark_next(step, Density::Mfm),
+                |step| misses_next_mark(step, Density::Mfm),
                 wait_longer,
             ),
         ],
@@ -71,8 +72,16 @@ const SENTENCES: &[Sentence] = &[
         slips: &[
             slip("at the first", is_first_crc_cell, turn::busy_off),
             slip("bit 3 stays", ends_record, leave::crc_error),
-            slip("F8 leaves bit 5", ends_record, turn::bit_5_off),
-            slip("FB leaves bit 5", ends_record, leave_deleted),
+            slip(
+                "F8 leaves bit 5",
+                |step| ends_record_of(step, DataMark::F8),
+                leave::deleted,
+            ),
+            slip(
+                "FB leaves bit 5",
+                |step| ends_record_of(step, DataMark::FB),
+                leave::deleted,
+            ),
         ],
     },
     Sentence {
@@ -122,7 +131,8 @@ fn is_reading(step: &Step) -> bool {
     window(step).is_some() || record(step).is_some() || reads_address(step) || reads_track(step)
 }
 
-fn window<'a>(step: &'a Step) -> Option<&'a Window> {
+/// The window that Read Sector looks for a data mark in.
+pub fn window<'a>(step: &'a Step) -> Option<&'a Window> {
     match &step.before.activity {
         Activity::AwaitingDataMark(window) if step.passes() => Some(window),
         _ => None,
@@ -144,14 +154,23 @@ fn address<'a>(step: &'a Step) -> Option<&'a AddressField> {
     }
 }
 
-fn finds_mark(step: &Step) -> bool {
-    matches!(step.right.machine.activity, Activity::ReadingRecord(_))
+/// The data mark that ends in the window with this cell.
+pub fn found_mark(step: &Step) -> Option<DataMark> {
+    match &step.right.machine.activity {
+        Activity::ReadingRecord(read) => window(step).map(|_| read.mark),
+        _ => None,
+    }
+}
+
+/// This cell is the window's last.
+pub fn is_last_of_window(step: &Step) -> bool {
+    let place = window(step).map(|window| window.passed.len() + 1);
+    place == Some(step.before.density.window())
 }
 
 /// The data mark ends with the window's last cell.
 fn meets_last_mark(step: &Step, density: Density) -> bool {
-    let place = window(step).map(|window| window.passed.len() + 1);
-    step.before.density == density && place == Some(density.window()) && finds_mark(step)
+    step.before.density == density && is_last_of_window(step) && found_mark(step).is_some()
 }
 
 fn meets_mark_at_30(step: &Step) -> bool {
@@ -162,32 +181,39 @@ fn meets_mark_at_43(step: &Step) -> bool {
     meets_last_mark(step, Density::Mfm)
 }
 
+/// The byte of a mark that ends in the window with this cell, but is no data mark.
+pub fn other_mark(step: &Step) -> Option<u8> {
+    let mut passed = window(step)?.passed.clone();
+    passed.push(step.cell());
+    let mark = field::mark_at_end(step.before.density, &passed);
+    mark.filter(|_| found_mark(step).is_none())
+}
+
 fn meets_other_mark(step: &Step) -> bool {
-    window(step).map_or(false, |window| {
-        let mut passed = window.passed.clone();
-        passed.push(step.cell());
-        let mark = field::mark_at_end(step.before.density, &passed);
-        mark.is_some() && !finds_mark(step)
-    })
+    other_mark(step).is_some()
 }
 
 fn misses_mark(step: &Step) -> bool {
     window(step).is_some() && step.ends()
 }
 
-/// The next cell would complete the data mark that was not in the window.
-fn has_mark_next(step: &Step, density: Density) -> bool {
-    if step.before.density != density || !misses_mark(step) {
-        return false;
+/// The data mark that was not in the window, where the next cell would complete one.
+pub fn missed_mark(step: &Step) -> Option<DataMark> {
+    if !misses_mark(step) {
+        return None;
     }
     let (head, length) = (usize::from(step.before.position), step.row.len());
     let places = (head + length - 2)..(head + length + 2);
     let cells: Vec<u16> = places.map(|place| step.row[place % length]).collect();
-    field::data_mark_at_end(density, &cells).is_some()
+    field::data_mark_at_end(step.before.density, &cells)
+}
+
+fn misses_next_mark(step: &Step, density: Density) -> bool {
+    step.before.density == density && missed_mark(step).is_some()
 }
 
 /// The window has one more cell.
-fn wait_longer(step: &Step, wrong: &mut Outcome) {
+pub fn wait_longer(step: &Step, wrong: &mut Outcome) {
     if let Some(mut window) = window(step).cloned() {
         window.passed.remove(0);
         window.passed.push(step.cell());
@@ -202,7 +228,7 @@ fn search_on(step: &Step, wrong: &mut Outcome) {
 }
 
 /// The command does not end with Record Not Found, but goes on with this.
-fn go_on_with(wrong: &mut Outcome, activity: Activity) {
+pub fn go_on_with(wrong: &mut Outcome, activity: Activity) {
     wrong.machine.status.not_found = false;
     wrong.machine.interrupt_request = false;
     wrong.machine.activity = activity;
@@ -238,8 +264,9 @@ pub fn ends_record(step: &Step) -> bool {
     cell_after_data(step) == Some(2)
 }
 
-fn leave_deleted(step: &Step, wrong: &mut Outcome) {
-    wrong.machine.status.deleted |= step.before.status.deleted;
+/// The second CRC cell of a record that begins with this mark.
+pub fn ends_record_of(step: &Step, mark: DataMark) -> bool {
+    ends_record(step) && record(step).map(|read| read.mark) == Some(mark)
 }
 
 /// The record ends, but not the command.

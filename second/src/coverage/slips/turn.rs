@@ -36,6 +36,11 @@ pub fn bit_4_off(_: &Step, wrong: &mut Outcome) {
 }
 
 /// Bit 5 of Types II and III.
+pub fn bit_5_on(_: &Step, wrong: &mut Outcome) {
+    wrong.machine.status.deleted = true;
+}
+
+/// Bit 5 of Types II and III.
 pub fn bit_5_off(_: &Step, wrong: &mut Outcome) {
     wrong.machine.status.deleted = false;
 }

@@ -4,8 +4,9 @@ use super::{leave, slip, turn, Sentence, Subject};
 use crate::activity::{Activity, RecordWrite};
 use crate::coverage::step::{Outcome, Step};
 use crate::crc;
+use crate::data_mark::DataMark;
 use crate::density::Density;
-use crate::field::FLAG;
+use crate::field::{self, FLAG};
 
 /// Byte times from the ID's last cell up to and with the mark.
 const TO_MARK_FM: usize = 18;
@@ -63,7 +64,9 @@ const SENTENCES: &[Sentence] = &[
     },
     Sentence {
         says: "Bits of Type II: 4 m, 3 S, 2 E, 1 C, 0 mark.",
-        slips: &[slip("the mark is FB always", is_mark, write_fb)],
+        slips: &[slip("the mark is FB always", is_mark, |step, wrong| {
+            write_mark(step, wrong, DataMark::FB)
+        })],
     },
     Sentence {
         says: "Then the data, two CRC bytes, one FF: n + 10 or n + 19 cells in all, no other cell \
@@ -103,7 +106,8 @@ const SENTENCES: &[Sentence] = &[
     },
 ];
 
-fn write<'a>(step: &'a Step) -> Option<&'a RecordWrite> {
+/// The record that Write Sector writes, or is about to write.
+pub fn write<'a>(step: &'a Step) -> Option<&'a RecordWrite> {
     match &step.before.activity {
         Activity::WritingRecord(write) if step.passes() => Some(write),
         _ => None,
@@ -130,7 +134,8 @@ fn to_mark(step: &Step) -> usize {
     }
 }
 
-fn is_mark(step: &Step) -> bool {
+/// The byte of the mark is written.
+pub fn is_mark(step: &Step) -> bool {
     is_at(step, to_mark(step))
 }
 
@@ -165,8 +170,12 @@ fn write_plain(_: &Step, wrong: &mut Outcome) {
     wrong.cell %= FLAG;
 }
 
-fn write_fb(step: &Step, wrong: &mut Outcome) {
-    wrong.cell = step.right.cell / FLAG * FLAG + 0xFB;
+/// Another mark is written, and the CRC starts with it.
+pub fn write_mark(step: &Step, wrong: &mut Outcome, mark: DataMark) {
+    wrong.cell = step.right.cell / FLAG * FLAG + u16::from(mark.byte());
+    if let Activity::WritingRecord(write) = &mut wrong.machine.activity {
+        write.field = field::mark_bytes(step.before.density, mark.byte());
+    }
 }
 
 fn write_low_byte(step: &Step, wrong: &mut Outcome) {

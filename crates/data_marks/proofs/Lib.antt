@@ -1,0 +1,2 @@
+-- What a Read Sector shows of the data mark that it met.
+pub mod ShownMarks

@@ -1,0 +1,2 @@
+-- Request f.
+pub mod ShownMarks
