@@ -18,7 +18,7 @@ markFound {s} r = byteOf (cellsBy s (r .mark-at + leadOf (s .machine .mfm)))
 
 -- a record's mark, and what the status byte shows of the record when n byte times have passed
 pub record ShowsRecord (s : Scene) (n : ℕ) {sector t : ℕ} (r : RecordFrom s sector t) : Type 0 where
-  -- it is one of the four, F9 and FA "in FM only"; that each of them is met there, demand 3 says
+  -- "In FM only, flagged F9 and FA become data marks": it is one of the four; that each of them is met, demand 3 says
   pub data-mark : IsDataMark (s .machine .mfm) (markFound r)
   -- "F9 counts as deleted, FA as normal."
   pub deleted : (l : Lines) → deletedMark (endOf s n) l ≡ countsDeleted (markFound r)
