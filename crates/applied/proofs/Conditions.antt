@@ -1,5 +1,5 @@
 -- Of one bad input of each call: its condition is met, and no earlier one. Assumes nothing.
-use mathlib.Core.Path.{_≡_, refl, sym, _∙_}
+use mathlib.Core.Path.{_≡_, refl, sym, ap, _∙_}
 use mathlib.Core.Bool.{Bool, true≢false}
 use mathlib.Core.List.{[]}
 use mathlib.Core.Logic.{inl, inr}
@@ -13,12 +13,14 @@ use Rattle.command.specs.declared.Chip.the-variants.{Wd1793, Wd1797}
 use Rattle.command.specs.declared.Decoded.{Decoded}
 use Rattle.command.specs.declared.Decoded.the-variants.{NoCommand}
 use Rattle.activity.specs.Limits.{busyIn}
+use Rattle.activity.specs.declared.Activity.the-variants.{Idle}
 use Rattle.registers.specs.declared.Lines.{Lines}
+use Rattle.wd.specs.declared.Machine.{Machine}
 use Rattle.wd.specs.Machines.{freshMachine, powerOn}
 use Rattle.reachable.proofs.Samples.{sampleLength}
-use Rattle.reachable.proofs.Valid.{power-on-valid}
+use Rattle.reachable.proofs.Valid.{Valid, power-on-valid}
 use Rattle.reachable.proofs.StatusBits.{status-busy}
-use Rattle.safe.specs.Demand1.{OutOfRange, Invalid, AboveFlagged, WhileBusy, IsCommand, Given, AtPowerOn, power-on-1, AtLoad, load-2, load-5, load-6, load-7, AtRead, read-2, read-5, AtByteTime, byte-time-2, byte-time-3, byte-time-4, AtRun, run-2, run-3, run-4}
+use Rattle.safe.specs.Demand1.{Invalid, AboveFlagged, WhileBusy, IsCommand, Given, AtPowerOn, power-on-1, AtLoad, load-2, load-5, load-6, load-7, AtRead, read-2, read-5, AtByteTime, byte-time-2, byte-time-3, byte-time-4, AtRun, run-2, run-3, run-4}
 use Rattle.safe.specs.Viewer.{AtViewer, viewer-1, viewer-4, viewer-11}
 use Rattle.safe.proofs.Refusals.{valid, Takes, takes, refuses, named}
 use Rattle.command.specs.declared.Chip.{Chip}
@@ -60,10 +62,7 @@ one-with-u = inr (inl (inl refl))
 
 -- ---- no earlier condition is met
 
-pub outside : OutOfRange 2047
-outside (least, most) = omega arith
-
-pub before-one : (j : ℕ) → j < 1 → AtPowerOn 2047 j → ⊥
+pub before-one : {size : ℕ} (j : ℕ) → j < 1 → AtPowerOn size j → ⊥
 before-one j low (power-on-1 c) = omega arith
 
 -- the cell under the head at power-on
@@ -71,20 +70,29 @@ pub cell-high : (mfm : Bool) (chip : Chip) → AboveFlagged (fresh mfm chip) hig
 unfolding powerOn lengthWithin freshMachine
 cell-high mfm chip = omega (arith, getD-replicate {A = ℕ} sampleLength 0 512 0 (omega arith))
 
+-- an idle machine accepts a command
+module _ (m : Machine) (l : Lines) (holds : Valid m) (rests : m .activity ≡ Idle) where
+  not-busy : (number b : ℕ) → WhileBusy m l number b → ⊥
+  unfolding busyIn
+  not-busy number b c = true≢false (sym (c .busy) ∙ status-busy m l holds ∙ ap busyIn rests)
+
+  pub accepts : (b : ℕ) → IsCommand (m .chip) b → (j : ℕ) → AtLoad m l 0 b j → ⊥
+  accepts b is j (load-2 c) = valid m holds c
+  accepts b is j (load-5 c) = omega (arith, c)
+  accepts b is j (load-6 c) = not-busy 0 b c
+  accepts b is j (load-7 z c) = c is
+
 module _ (mfm : Bool) (chip : Chip) (l : Lines) where
   sound : Invalid (fresh mfm chip) → ⊥
   sound = valid (fresh mfm chip) (power-on-valid sampleLength mfm chip)
 
   idle : (number b : ℕ) → WhileBusy (fresh mfm chip) l number b → ⊥
-  unfolding busyIn powerOn lengthWithin freshMachine
-  idle number b c = true≢false (sym (c .busy) ∙ status-busy (fresh mfm chip) l (power-on-valid sampleLength mfm chip))
+  unfolding powerOn lengthWithin freshMachine
+  idle = not-busy (fresh mfm chip) l (power-on-valid sampleLength mfm chip) refl
 
   pub taken : (b : ℕ) → IsCommand chip b → (j : ℕ) → AtLoad (fresh mfm chip) l 0 b j → ⊥
   unfolding powerOn lengthWithin freshMachine
-  taken b is j (load-2 c) = sound c
-  taken b is j (load-5 c) = omega (arith, c)
-  taken b is j (load-6 c) = idle 0 b c
-  taken b is j (load-7 z c) = c is
+  taken = accepts (fresh mfm chip) l (power-on-valid sampleLength mfm chip) refl
 
   pub before-seven : (b j : ℕ) → j < 7 → AtLoad (fresh mfm chip) l 0 b j → ⊥
   before-seven b j low (load-2 c) = sound c

@@ -1,6 +1,6 @@
 -- Demand 1 for one bad input of each call, from `demand-1` alone: its condition is met, and none before it. Assumes nothing.
 use mathlib.Core.Path.{_≡_, refl}
-use mathlib.Core.Bool.{Bool}
+use mathlib.Core.Bool.{Bool, false}
 use mathlib.Core.List.{[]}
 use mathlib.Core.Logic.{inl, inr}
 use Prim.Native.Nat.{ℕ}
@@ -14,12 +14,13 @@ use Rattle.safe.specs.Viewer.{viewer-1}
 use Rattle.command.specs.declared.Chip.{Chip}
 use Rattle.command.specs.declared.Chip.the-variants.{Wd1793, Wd1797}
 use Rattle.registers.specs.declared.Lines.{Lines}
+use Rattle.wd.specs.declared.Started.{Started}
 use Rattle.wd.specs.declared.Loaded.{Loaded}
-use Rattle.uses.specs.Contracts.{LoadCall}
+use Rattle.uses.specs.Contracts.{PowerOnCall, LoadCall}
 use Rattle.in_time.proofs.Scenes.{fresh}
 use Rattle.demands.proofs.Demand1.{demand-1}
 use Rattle.applied.specs.Refusals.{Refusals}
-use Rattle.applied.proofs.Conditions.{first-row, is-none, is-one, none-without-u, one-with-u, outside, before-one, taken, before-seven, before-five, before-three, before-viewer}
+use Rattle.applied.proofs.Conditions.{first-row, is-none, is-one, none-without-u, one-with-u, before-one, taken, before-seven, before-five, before-three, before-viewer}
 use Rattle.applied.proofs.HighCells.{above, stopped}
 
 -- a byte that is no command of the chip
@@ -34,14 +35,22 @@ no-command mfm chip l b none r call =
     let (is, some) = first-row 7 (omega arith) (safe .given) (load-7 refl none) (before-seven mfm chip l b) in
     (is, safe .refused some)
 
+-- a length out of range
+no-power-on : (size : ℕ)
+    → OutOfRange size
+    → (mfm : Bool) (chip : Chip) (r : Started)
+    → PowerOnCall size mfm chip r
+    → (r .number ≡ 1) × (r .machine ≡ fresh false chip)
+no-power-on size out mfm chip r call =
+    let safe = demand-1 .power-on size mfm chip r call in
+    let (is, some) = first-row 1 (omega arith) (safe .given) (power-on-1 out) before-one in
+    (is, safe .refused some)
+
 pub refusals : Refusals
 unfolding powerOn lengthWithin freshMachine
 refusals =
     record {
-      short = λ mfm chip r call.
-          let safe = demand-1 .power-on 2047 mfm chip r call in
-          let (is, some) = first-row 1 (omega arith) (safe .given) (power-on-1 outside) before-one in
-          (is, safe .refused some);
+      short = no-power-on 2047 (λ (least, most). omega arith);
       command = λ mfm chip l r call.
           demand-1 .load (fresh mfm chip) l 0 0x80 r call .given .done .1 (taken mfm chip l 0x80 (is-one chip));
       no-command = λ mfm chip l. no-command mfm chip l 0x9F (is-none chip);

@@ -10,21 +10,14 @@ use lib.Seq.{length-take-le}
 use borrow.Author.Tests.{eq-eqb, ne-eqb}
 use Rattle.scan.specs.Rows.{longestRow}
 use Rattle.picture.specs.declared.Answer.{Answer}
-use Rattle.picture.specs.declared.Kind.{Kind}
-use Rattle.picture.specs.declared.Kind.the-variants.{Fm, Mfm}
 use Rattle.picture.specs.declared.Shape.{Shape}
-use Rattle.picture.specs.Kinds.{shapeOf, lengthOf}
+use Rattle.picture.specs.Kinds.{shapeOf}
 use Rattle.picture.specs.Reader.{readerAnswer, readerRoom}
-use Rattle.picture.proofs.Laws.{room-length}
+use Rattle.picture.proofs.Laws.{kind-length, room-length}
 use Rattle.list.specs.Lines.{headText, countText, refusalText}
 use Rattle.list.specs.Listing.{joined, pictureText, isRefused}
 use Rattle.list.specs.Plain.{ByCell, idLineAt}
 use Rattle.list.proofs.Complete.{lists}
-
-lengths : (k : Kind) → (3 ≤ lengthOf k) × (lengthOf k ≤ longestRow)
-unfolding shapeOf
-lengths Fm = (omega arith, omega arith)
-lengths Mfm = (omega arith, omega arith)
 
 module _ (bytes room : List ℕ) where
   -- the reader's answer, the shape and the cells of the picture that it read
@@ -40,7 +33,7 @@ module _ (bytes room : List ℕ) where
   pub row-length : length room ≡ longestRow → length row ≡ shape .length
   row-length size =
       length-take-le (shape .length) (readerRoom bytes room)
-      (omega (arith, room-length bytes room, lengths (answer .kind) .1))
+      (omega (arith, room-length bytes room, kind-length (answer .kind) .1))
 
   -- "F or M, track, side as one digit; IDs by cell of FE, round the ring", `ids` and how many
   pub prints : length room ≡ longestRow → answer .number ≡ 0 → (fes : List ℕ) → ByCell (shape .mfm) row fes
@@ -50,7 +43,7 @@ module _ (bytes room : List ℕ) where
       ++ countText (length fes)
   unfolding pictureText
   prints size taken fes by-cell =
-      let long : 3 ≤ length row = omega (arith, row-length size, lengths (answer .kind) .0) in
+      let long : 3 ≤ length row = omega (arith, row-length size, kind-length (answer .kind) .0) in
       rw (eq-eqb (answer .number) 0 taken)
       (lists shape (answer .track) (answer .side) row fes long by-cell)
 

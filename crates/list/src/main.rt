@@ -3,6 +3,7 @@ ghost use mathlib.Core.Path.{_≡_};
 ghost use Prim.Native.Nat.{_+_, _^_, _≤_, _<_};
 ghost use lib.ListN.{length};
 ghost use Rattle.scan.specs.Rows.{longestRow};
+ghost use Rattle.picture.specs.Layout.{longestPicture};
 ghost use Rattle.list.specs.Listing.{listingRoom};
 ghost use Rattle.list.specs.Steps.{Stepped};
 ghost use Rattle.list.specs.Runs.{WholeRun};
@@ -64,8 +65,10 @@ fn step(run: Run, bytes: &mut [u8], room: &mut [u16], out: &mut [u8]) -> Run
     }
 }
 
-// Lists all pictures, and hands back how many bytes it wrote.
+// Lists all pictures, and hands back how many bytes it wrote. The buffer of the input holds a whole picture of every kind, so one that
+// ends early there has ended with the input.
 fn list(bytes: &mut [u8], room: &mut [u16], out: &mut [u8]) -> u64
+    requires { ⌜ longestPicture ≤ length (now bytes) ⌝ }
     requires { ⌜ (length (now room) ≡ longestRow) × (listingRoom ≤ length (now out)) ⌝ }
     ensures { λ r. ⌜ WholeRun (now (bytes .entry)) (now (room .entry)) (now (out .entry)) r
         (now (bytes .exit)) (now (room .exit)) (now (out .exit)) ⌝ }

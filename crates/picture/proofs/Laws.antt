@@ -1,25 +1,37 @@
--- What the definitions of the reader come to: the bodies of document 01, the cells and the room, refusals, padding.
+-- What the definitions of the reader come to: the length of a track, the cells and the room, refusals.
 -- Assumes nothing.
-use mathlib.Core.Path.{_≡_, refl}
+use mathlib.Core.Path.{_≡_, refl, ap}
 use mathlib.Core.Logic.{_≢_}
-use mathlib.Core.List.{List, [], _∷_, map}
+use mathlib.Core.List.{List}
 use Prim.Native.Nat.{ℕ, _≤_, _<_}
 use native.Mathlib.Omega.{arith}
 use lib.ListN.{length, getD}
 use Rattle.common.proofs.Laid.{first-places, laid-length, laid-in, laid-out}
+use Rattle.scan.specs.Rows.{shortestRow, longestRow}
 use Rattle.picture.specs.declared.Kind.{Kind}
 use Rattle.picture.specs.declared.Kind.the-variants.{Fm, Mfm}
+use Rattle.picture.specs.declared.Named.{Named}
+use Rattle.picture.specs.declared.Named.the-variants.{Known, Unknown}
 use Rattle.picture.specs.declared.Verdict.{Verdict}
 use Rattle.picture.specs.declared.Verdict.the-variants.{Sound, Refused}
-use Rattle.picture.specs.Kinds.{shapeOf, lengthOf}
+use Rattle.picture.specs.Kinds.{kindOf, shapeOf, lengthOf}
 use Rattle.picture.specs.Layout.{cellPlace, bodyLength, flagIn, cellFrom, pictureCell}
 use Rattle.picture.specs.Reader.{verdictOf, roomWithPicture, takenFrom, refusedBy, answerOf, filledOf, readerAnswer, readerRoom}
-use Rattle.picture.proofs.Verdicts.{sound-whole}
+use Rattle.picture.proofs.Verdicts.{sound-whole, done-sound}
 
--- "46 FM, L 3,125, body 3,518; 4D MFM, L 6,250, body 7,034"
-pub bodies : map bodyLength (Fm ∷ Mfm ∷ []) ≡ 3518 ∷ 7034 ∷ []
-unfolding bodyLength shapeOf
-bodies = refl
+-- the cells of a picture are as many as a row may have
+pub kind-length : (k : Kind) → (shortestRow ≤ lengthOf k) × (lengthOf k ≤ longestRow)
+unfolding shapeOf
+kind-length Fm = (omega arith, omega arith)
+kind-length Mfm = (omega arith, omega arith)
+
+-- the kind of a kind byte, FM where it is none's
+abbrev kindIn : Named → Kind
+kindIn (Known k) = k
+kindIn Unknown = Fm
+
+abbrev pub kindFor : ℕ → Kind
+kindFor b = kindIn (kindOf b)
 
 -- a cell of a picture of bytes is a byte, or a byte and 256: no call refuses it by 4
 pub cell-most : (k : Kind) (bytes : List ℕ) (i : ℕ) → ((j : ℕ) → getD bytes j 0 < 256) → pictureCell k bytes i ≤ 511
@@ -43,8 +55,20 @@ module _ (bytes room : List ℕ) where
       (λ n. refl)
       (verdictOf bytes (length room))
 
-  module _ (k : Kind) (sound : verdictOf bytes (length room) ≡ Sound k) where
-    -- after a whole picture its cells stand in the room's first places ..
+  module _ (done : readerAnswer bytes (length room) .number ≡ 0) where
+    -- the kind of the picture that was taken
+    abbrev k : Kind
+    k = readerAnswer bytes (length room) .kind
+
+    sound : verdictOf bytes (length room) ≡ Sound k
+    unfolding readerAnswer
+    sound = done-sound bytes (length room) done
+
+    pub answer-taken : readerAnswer bytes (length room) ≡ takenFrom bytes k
+    unfolding readerAnswer answerOf
+    answer-taken = ap (answerOf bytes) sound
+
+    -- its cells stand in the room's first places ..
     pub room-within : (i d : ℕ) → i < lengthOf k → getD (readerRoom bytes room) i d ≡ pictureCell k bytes i
     unfolding readerRoom filledOf roomWithPicture
     room-within i d in′ =

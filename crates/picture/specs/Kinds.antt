@@ -1,5 +1,5 @@
--- The kinds of pictures, document 01, "Pictures and the viewer": "46 FM, L 3,125, ..; 4D MFM, L 6,250, ..". Assumes nothing.
-use mathlib.Core.Bool.{true, false, cond}
+-- The kinds of pictures: document 01, "Pictures and the viewer". Assumes nothing.
+use mathlib.Core.Bool.{Bool, true, false, cond}
 use Prim.Native.Nat.{ℕ}
 use lib.Dec.{eqb}
 use Rattle.picture.specs.declared.Kind.{Kind}
@@ -8,14 +8,18 @@ use Rattle.picture.specs.declared.Shape.{Shape}
 use Rattle.picture.specs.declared.Named.{Named}
 use Rattle.picture.specs.declared.Named.the-variants.{Known, Unknown}
 
--- "A picture is a kind byte, .."
+-- "A picture is a kind byte, ..": "46 FM, ..; 4D MFM, .."
 unfoldable pub kindOf : ℕ → Named
 kindOf b = cond (eqb b 0x46) (Known Fm) (cond (eqb b 0x4D) (Known Mfm) Unknown)
 
--- what a picture of a kind is of: "F or M", the density, and L, the cells of the track
+-- what a picture is of: the letter that the list prints, in ASCII, whether the density is MFM, and L, the cells of the track
+abbrev pub shapeWith : ℕ → Bool → ℕ → Shape
+shapeWith letter mfm length = record { letter = letter; mfm = mfm; length = length }
+
+-- "46 FM, L 3,125, ..; 4D MFM, L 6,250, ..", "F or M"
 unfoldable pub shapeOf : Kind → Shape
-shapeOf Fm = record { letter = 0x46; mfm = false; length = 3125 }
-shapeOf Mfm = record { letter = 0x4D; mfm = true; length = 6250 }
+shapeOf Fm = shapeWith 0x46 false 3125
+shapeOf Mfm = shapeWith 0x4D true 6250
 
 abbrev pub lengthOf : Kind → ℕ
 lengthOf k = shapeOf k .length

@@ -15,17 +15,17 @@ use Rattle.picture.specs.declared.Answer.{Answer}
 use Rattle.picture.specs.Kinds.{kindOf, lengthOf}
 use Rattle.picture.specs.Layout.{bodyLength, pictureLength, pictureCell, paddingClear}
 
--- not "10: side byte above 1, or a padding bit set"
+-- not 10: "side byte above 1, or a padding bit set"
 unfoldable pub soundOf : Kind → List ℕ → Bool
 soundOf k bytes = leb (getD bytes 2 0) 1 && paddingClear k bytes
 
--- .. then "9: picture ends early", "12: room for cells smaller than the kind's L", 10
+-- .. then 9, "picture ends early", 12, "room for cells smaller than the kind's L", and 10
 unfoldable pub judgedFor : List ℕ → ℕ → Kind → Verdict
 judgedFor bytes room k =
     cond (leb (length bytes) (bodyLength k)) (Refused 9)
     (cond (ltb room (lengthOf k)) (Refused 12) (cond (soundOf k bytes) (Sound k) (Refused 10)))
 
--- .. then "8: picture kind is not 46 or 4D (hex)"
+-- .. then 8: "picture kind is not 46 or 4D (hex)"
 unfoldable pub judgedOf : List ℕ → ℕ → Named → Verdict
 judgedOf bytes room (Known k) = judgedFor bytes room k
 judgedOf bytes room Unknown = Refused 8

@@ -3,7 +3,7 @@ ghost use mathlib.Core.Path.{_≡_};
 ghost use Prim.Native.Nat.{_+_, _≤_, _<_};
 ghost use lib.ListN.{length};
 ghost use Rattle.scan.specs.Rows.{shortestRow, longestRow};
-ghost use Rattle.picture.specs.Kinds.{kindOf, shapeOf, lengthOf};
+ghost use Rattle.picture.specs.Kinds.{kindOf, shapeWith, shapeOf, lengthOf};
 ghost use Rattle.picture.specs.Layout.{cellPlace, bodyLength, longestPicture, cellFrom, pictureCell, spareClear, paddingClear};
 ghost use Rattle.picture.specs.Reader.{soundOf, judgedFor, judgedOf, verdictOf, roomWithPicture};
 ghost use Rattle.picture.specs.Reader.{refusedBy, takenFrom, readerAnswer, readerRoom};
@@ -54,12 +54,20 @@ pub struct Answer {
 fn kind_of(byte: u8) -> Named
     ensures { λ r. ⌜ r ≡ kindOf byte ⌝ }
 {
-    if byte == 0x46 {
-        Named::Known(Kind::Fm)
-    } else if byte == 0x4D {
-        Named::Known(Kind::Mfm)
-    } else {
-        Named::Unknown
+    match byte {
+        0x46 => Named::Known(Kind::Fm),
+        0x4D => Named::Known(Kind::Mfm),
+        _ => Named::Unknown,
+    }
+}
+
+fn shaped(letter: u8, mfm: bool, length: usize) -> Shape
+    ensures { λ r. ⌜ r ≡ shapeWith letter mfm length ⌝ }
+{
+    Shape {
+        letter,
+        mfm,
+        length,
     }
 }
 
@@ -69,16 +77,8 @@ impl Kind {
         ensures { λ r. ⌜ (shortestRow ≤ r .length) × (r .length ≤ longestRow) ⌝ }
     {
         match self {
-            Kind::Fm => Shape {
-                letter: b'F',
-                mfm: false,
-                length: 3125,
-            },
-            Kind::Mfm => Shape {
-                letter: b'M',
-                mfm: true,
-                length: 6250,
-            },
+            Kind::Fm => shaped(b'F', false, 3125),
+            Kind::Mfm => shaped(b'M', true, 6250),
         }
     }
 

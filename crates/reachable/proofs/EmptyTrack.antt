@@ -86,9 +86,9 @@ module _ (l : Lines) (waiting : ℕ → Activity) (waits : Waits waiting) where
       → WaitsAt waiting next then
   unfolding seenOf cellTurn actApplied
   turn position next seen then inside e p few (m, g, ring, activity) =
-      let whole = empty-length ∙ sym (ap (λ (r : Ring). r .length) ring) in
+      let whole = empty-length sampleLength ∙ sym (ap (λ (r : Ring). r .length) ring) in
       let opens = row-open m (length empty) (grown-valid m g) whole in
-      let plain = ap (λ (r : Ring). getD empty (r .position) 0) ring ∙ empty-cell position inside in
+      let plain = ap (λ (r : Ring). getD empty (r .position) 0) ring ∙ empty-cell sampleLength position inside in
       let turned = done m l empty opens plain in
       let pulses = ap (λ (r : Ring). pulsesSeen seen (eqb (r .position) 0)) ring ∙ p in (
         byteTime m l empty .machine,

@@ -1,4 +1,4 @@
--- What examples take: lines with Ready and HLT on, and a track of 2,048 cells of 00. Assumes nothing.
+-- What examples take: lines with Ready and HLT on, and tracks of cells of 00. Assumes nothing.
 use mathlib.Core.Path.{_≡_}
 use mathlib.Core.Bool.{true, false}
 use mathlib.Core.List.{List}
@@ -15,15 +15,20 @@ on = record { ready = true; protect = false; track0 = false; hlt = true }
 abbrev pub sampleLength : ℕ
 sampleLength = 2048
 
+-- a track of so many cells, none of them in a mark
+abbrev pub emptyTrack : ℕ → List ℕ
+emptyTrack size = replicate size 0
+
 abbrev pub empty : List ℕ
-empty = replicate sampleLength 0
+empty = emptyTrack sampleLength
 
-pub empty-length : length empty ≡ sampleLength
-empty-length = length-replicate {A = ℕ} sampleLength 0
+module _ (size : ℕ) where
+  pub empty-length : length (emptyTrack size) ≡ size
+  empty-length = length-replicate {A = ℕ} size 0
 
-pub empty-cell : (i : ℕ) → i < sampleLength → getD empty i 0 ≡ 0
-empty-cell i = getD-replicate sampleLength i 0 0
+  pub empty-cell : (i : ℕ) → i < size → getD (emptyTrack size) i 0 ≡ 0
+  empty-cell i = getD-replicate size i 0 0
 
--- no cell is above 511
-pub low-empty : (i : ℕ) → i < length empty → getD empty i 0 ≤ 511
-low-empty i l = omega (arith, empty-cell i (rw empty-length at l))
+  -- no cell is above 511
+  pub low-empty : (i : ℕ) → i < length (emptyTrack size) → getD (emptyTrack size) i 0 ≤ 511
+  low-empty i l = omega (arith, empty-cell i (rw empty-length at l))

@@ -1,6 +1,7 @@
--- Demand 1 for the picture reader: each number exactly in its turn, and what a refusal hands back. Assumes nothing.
-use mathlib.Core.Path.{_≡_, refl, ap}
-use mathlib.Core.Bool.{Bool, true, false}
+-- Demand 1 for the picture reader: each number exactly in its turn, what a refusal hands back, and what is taken of a picture.
+-- Assumes nothing.
+use mathlib.Core.Path.{_≡_, refl, sym, ap, _∙_}
+use mathlib.Core.Bool.{Bool, true, false, cond}
 use mathlib.Core.List.{List}
 use mathlib.Core.Logic.{_⊎_, inl, inr, ⊎-elim}
 use Prim.Native.Nat.{ℕ, zero, suc, _+_, _-_, _*_, _/_, _%_, _^_, _≤_, _<_}
@@ -11,15 +12,16 @@ use lib.ListN.{length, getD}
 use borrow.Author.Tests.{leb-true, leb-false, ltb-true, ltb-false, eqb-true, eqb-false}
 use Rattle.common.proofs.Cases.{by-cond, never, both, all}
 use Rattle.common.specs.Bits.{bitOf}
+use Rattle.picture.specs.declared.Answer.{Answer}
 use Rattle.picture.specs.declared.Kind.{Kind}
 use Rattle.picture.specs.declared.Kind.the-variants.{Fm, Mfm}
 use Rattle.picture.specs.Kinds.{kindOf, shapeOf, lengthOf}
-use Rattle.picture.specs.Layout.{flagBytes, bodyLength, flagIn, paddingClear}
+use Rattle.picture.specs.Layout.{flagBytes, bodyLength, cellPlace, flagIn, cellFrom, pictureCell, paddingClear}
 use Rattle.picture.specs.Reader.{soundOf, judgedFor, judgedOf, verdictOf, refusedBy, takenFrom, answerOf, readerAnswer, readerRoom}
 use Rattle.picture.proofs.Padding.{spare-clear, clear-spare}
-use Rattle.picture.proofs.Laws.{refused-leaves}
+use Rattle.picture.proofs.Laws.{kindFor, room-length, answer-taken, room-within, room-beyond, refused-leaves}
 use Rattle.safe.specs.Demand1.{InTurn}
-use Rattle.safe.specs.Pictures.{Form, flagsLast, IsKind, fm, mfm, kindByte, sideByte, flagBit, PaddingSet, readerOrder, Empty, NoKind, EndsEarly, NoRoom, Unsound, AtReader, empty, no-kind, ends-early, no-room, unsound, SafePicture}
+use Rattle.safe.specs.Pictures.{Form, flagsLast, IsKind, fm, mfm, kindByte, sideByte, flagBit, cellOfPicture, PaddingSet, readerOrder, Empty, NoKind, EndsEarly, NoRoom, Unsound, AtReader, empty, no-kind, ends-early, no-room, unsound, TakenPicture, SafePicture}
 use Rattle.safe.proofs.Refusals.{first-turn, nothing}
 
 -- ---- padding
@@ -55,7 +57,7 @@ flag-set last i e = eqb-true _ _ e
 
 -- what the definitions say of a kind
 abbrev formOf : Kind → Form
-formOf k = flagsLast (lengthOf k) (bodyLength k)
+formOf k = flagsLast (shapeOf k .letter) (shapeOf k .mfm) (lengthOf k) (bodyLength k)
 
 module _ (bytes : List ℕ) (k : Kind) where
   -- the byte of a padding bit is the picture's last
@@ -95,20 +97,26 @@ module _ (bytes : List ℕ) (k : Kind) where
 
 -- ---- kinds
 
--- a byte is of one kind
+-- the form of a kind byte is that of the definitions, so a byte is of one kind
+kind-form : {b : ℕ} {form : Form} → IsKind b form → form ≡ formOf (kindFor b)
+unfolding kindOf shapeOf bodyLength
+kind-form (fm e) = rw e refl
+kind-form (mfm e) = rw e refl
+
 same-kind : {b : ℕ} {form form′ : Form} → IsKind b form → IsKind b form′ → form ≡ form′
-same-kind (fm e) (fm f) = refl
-same-kind (mfm e) (mfm f) = refl
-same-kind (fm e) (mfm f) = absurd (omega arith)
-same-kind (mfm e) (fm f) = absurd (omega arith)
+same-kind is is′ = kind-form is ∙ sym (kind-form is′)
 
 module _ (bytes : List ℕ) (room : ℕ) where
-  abbrev Told : ℕ → Type 0
-  Told number = InTurn readerOrder (AtReader bytes room) number
+  -- an answer's number is given in its turn, and where it is 0 its kind is that of the first byte
+  abbrev Told : Answer → Type 0
+  Told r =
+      InTurn readerOrder (AtReader bytes room) (r .number) × (r .number ≡ 0 → IsKind (kindByte bytes) (formOf (r .kind)))
 
   turn : (t : ℕ) → 0 < readerOrder t → AtReader bytes room t → ((s : ℕ) → AtReader bytes room s → t ≤ s)
-      → Told (readerOrder t)
-  turn = first-turn readerOrder (AtReader bytes room)
+      → Told (refusedBy (readerOrder t))
+  unfolding refusedBy
+  turn t some at first =
+      (first-turn readerOrder (AtReader bytes room) t some at first, λ none. absurd (omega (arith, some, none)))
 
   reader-rows : (P : ℕ → Type 0)
       → (Empty bytes → P 0)
@@ -128,11 +136,7 @@ module _ (bytes : List ℕ) (room : ℕ) where
   -- the turns after that of the kind, which is known
   module _ (k : Kind) (is : IsKind (kindByte bytes) (formOf k)) (some : Empty bytes → ⊥) where
     known : NoKind bytes → ⊥
-    known (not-fm, not-mfm) = by is
-      where
-        by : {form : Form} → IsKind (kindByte bytes) form → ⊥
-        by (fm e) = not-fm e
-        by (mfm e) = not-mfm e
+    known none = none (formOf k) is
 
     long : bodyLength k < length bytes → (form : Form) → IsKind (kindByte bytes) form → EndsEarly bytes form → ⊥
     long h form other short = let early : EndsEarly bytes (formOf k) = rw (same-kind other is) at short in omega arith
@@ -158,10 +162,10 @@ module _ (bytes : List ℕ) (room : ℕ) where
         by true f false g = inr (padding-set bytes k g)
         by true f true g = let h = all f g in never (cc)
 
-    kind-given : Told (answerOf bytes (judgedFor bytes room k) .number)
+    kind-given : Told (answerOf bytes (judgedFor bytes room k))
     unfolding answerOf judgedFor refusedBy takenFrom
     kind-given =
-        by-cond (λ v. Told (answerOf bytes v .number)) (leb (length bytes) (bodyLength k))
+        by-cond (λ v. Told (answerOf bytes v)) (leb (length bytes) (bodyLength k))
         (λ e.
         let short = leb-true (length bytes) (bodyLength k) e in
         turn 2 (omega arith) (ends-early (formOf k) is (omega arith))
@@ -169,46 +173,87 @@ module _ (bytes : List ℕ) (room : ℕ) where
         (λ form j h. omega arith) (λ form j h. omega arith)))
         (λ e.
         let there = leb-false (length bytes) (bodyLength k) e in
-        by-cond (λ v. Told (answerOf bytes v .number)) (ltb room (lengthOf k))
+        by-cond (λ v. Told (answerOf bytes v)) (ltb room (lengthOf k))
         (λ f.
         turn 3 (omega arith) (no-room (formOf k) is (ltb-true room (lengthOf k) f))
         (reader-rows (λ t. 3 ≤ t) (λ h. absurd (some h)) (λ h. absurd (known h))
         (λ form j h. absurd (long there form j h)) (λ form j h. omega arith) (λ form j h. omega arith)))
         (λ f.
         let fits = ltb-false room (lengthOf k) f in
-        by-cond (λ v. Told (answerOf bytes v .number)) (soundOf k bytes)
-        (λ g. nothing (AtReader bytes room) (reader-rows (λ t. ⊥) some known (long there) (wide fits) (clean g)))
+        by-cond (λ v. Told (answerOf bytes v)) (soundOf k bytes)
+        (λ g.
+        (nothing (AtReader bytes room) (reader-rows (λ t. ⊥) some known (long there) (wide fits) (clean g)), λ _. is))
         (λ g.
         turn 4 (omega arith) (unsound (formOf k) is (unclean g))
         (reader-rows (λ t. 4 ≤ t) (λ h. absurd (some h)) (λ h. absurd (known h))
         (λ form j h. absurd (long there form j h)) (λ form j h. absurd (wide fits form j h))
         (λ form j h. omega arith)))))
 
-  reader-given : Told (readerAnswer bytes room .number)
-  unfolding readerAnswer answerOf verdictOf judgedOf kindOf refusedBy shapeOf bodyLength
+  reader-given : Told (readerAnswer bytes room)
+  unfolding readerAnswer answerOf verdictOf judgedOf kindOf shapeOf bodyLength
   reader-given =
-      by-cond (λ v. Told (answerOf bytes v .number)) (eqb (length bytes) 0)
+      by-cond (λ v. Told (answerOf bytes v)) (eqb (length bytes) 0)
       (λ e. turn 0 (omega arith) (empty (eqb-true _ _ e)) (λ t asked. omega arith))
       (λ e.
       let some = eqb-false (length bytes) 0 e in
-      by-cond (λ n. Told (answerOf bytes (judgedOf bytes room n) .number)) (eqb (kindByte bytes) 0x46)
+      by-cond (λ n. Told (answerOf bytes (judgedOf bytes room n))) (eqb (kindByte bytes) 0x46)
       (λ f. kind-given Fm (fm (eqb-true _ _ f)) some)
       (λ f.
-      by-cond (λ n. Told (answerOf bytes (judgedOf bytes room n) .number)) (eqb (kindByte bytes) 0x4D)
+      by-cond (λ n. Told (answerOf bytes (judgedOf bytes room n))) (eqb (kindByte bytes) 0x4D)
       (λ g. kind-given Mfm (mfm (eqb-true _ _ g)) some)
       (λ g.
-      turn 1 (omega arith) (no-kind (eqb-false _ _ f, eqb-false _ _ g))
+      turn 1 (omega arith) (no-kind (none (eqb-false _ _ f) (eqb-false _ _ g)))
       (reader-rows (λ t. 1 ≤ t) (λ h. absurd (some h)) (λ h. omega arith) (λ form j h. omega arith)
       (λ form j h. omega arith) (λ form j h. omega arith)))))
+    where
+      none : (kindByte bytes ≡ 0x46 → ⊥) → (kindByte bytes ≡ 0x4D → ⊥) → NoKind bytes
+      none f g form (fm e) = f e
+      none f g form (mfm e) = g e
+
+-- ---- what is taken
+
+-- a cell of a picture, by its byte and its flag bit
+cell-there : (bytes : List ℕ) (k : Kind) (i : ℕ) → pictureCell k bytes i ≡ cellOfPicture bytes (formOf k) i
+unfolding pictureCell cellPlace cellFrom
+cell-there bytes k i = by (flagBit bytes (formOf k) i) refl
+  where
+    flags : ℕ
+    flags = getD bytes (3 + lengthOf k + i / 8) 0
+
+    by : (b : Bool) → flagBit bytes (formOf k) i ≡ b
+        → getD bytes (3 + i) 0 + flagIn flags i * 256 ≡ getD bytes (3 + i) 0 + cond b 256 0
+    by true e = rw (flag-set flags i e) refl
+    by false e = rw (flag-clear flags i e) refl
+
+picture-taken : (bytes room : List ℕ)
+    → readerAnswer bytes (length room) .number ≡ 0
+    → TakenPicture bytes room (readerAnswer bytes (length room)) (readerRoom bytes room)
+unfolding takenFrom
+picture-taken bytes room done =
+    let answer = answer-taken bytes room done in
+    record {
+      form = formOf (readerAnswer bytes (length room) .kind);
+      kind = reader-given bytes (length room) .1 done;
+      letter = refl;
+      density = refl;
+      length-of-track = refl;
+      track = ap (λ a. a .track) answer;
+      side = ap (λ a. a .side) answer;
+      taken = ap (λ a. a .taken) answer ∙ omega arith;
+      cells = λ i d within. room-within bytes room done i d within ∙ cell-there bytes _ i;
+      beyond = room-beyond bytes room done;
+      size = room-length bytes room;
+    }
 
 -- for every input
 pub picture-safe : (bytes room : List ℕ) → SafePicture bytes room (readerAnswer bytes (length room)) (readerRoom bytes room)
 unfolding refusedBy
 picture-safe bytes room =
     record {
-      given = reader-given bytes (length room);
+      given = reader-given bytes (length room) .0;
       refused =
           λ h.
           let left = refused-leaves bytes room h in
           (ap (λ a. a .track) (left .1), ap (λ a. a .side) (left .1), left .0);
+      done = picture-taken bytes room;
     }

@@ -1,20 +1,20 @@
 -- `picture::kind_of` meets its contract, by its tests and its callees' contracts. Assumes nothing.
 use Rattle.picture.proofs.kind_of.Statement.{statement}
 use Rattle.picture.specs.Kinds.{kindOf}
-use borrow.Author.Tests.{eq-eqb, ne-eqb}
+use borrow.Author.Tests.{ne-eqb}
 use Rattle.picture.proofs.kind_of.Tie as tie
 
 returns : tie.Need-returns
 unfolding kindOf
-returns c = simp (eq-eqb _ _ (c .if1 .taken))
+returns c = simp (c .match .keys1)
 
 returns-2 : tie.Need-returns-2
 unfolding kindOf
-returns-2 c = simp (eq-eqb _ _ (c .if2 .taken), ne-eqb _ _ (c .before .if1 .left))
+returns-2 c = simp (c .match .keys2)
 
 returns-3 : tie.Need-returns-3
 unfolding kindOf
-returns-3 c = simp (ne-eqb _ _ (c .if2 .left), ne-eqb _ _ (c .before .if1 .left))
+returns-3 c = simp (ne-eqb _ _ (c .match .rest .0 .1), ne-eqb _ _ (c .match .rest .1))
 
 pub kind-of-spec : {M : Type 1} → statement M
 kind-of-spec = tie.close (tie.spec returns returns-2 returns-3)
