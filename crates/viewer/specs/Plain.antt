@@ -1,4 +1,4 @@
--- What the viewer looks for, in document 01's words. Assumes nothing.
+-- What the viewer looks for, in the documents' words. Assumes nothing.
 use mathlib.Core.Path.{_≡_}
 use mathlib.Core.Bool.{Bool, true}
 use mathlib.Core.List.{List}
