@@ -10,7 +10,7 @@ use crate::script::Line;
 use crate::session::Session;
 use crate::viewer::{self, Wanted};
 
-/// Cells that each row has room for.
+/// "The rows of every program hold 10,416 cells."
 const ROOM: usize = LONGEST_TRACK as usize;
 /// Cells that one line C may name.
 const MOST_CELLS: usize = 64;

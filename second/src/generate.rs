@@ -5,6 +5,7 @@ mod chaining;
 mod commands;
 mod data_marks;
 mod edges;
+mod eight_inch;
 mod failing;
 mod forcing;
 mod formatting;
@@ -30,7 +31,7 @@ use crate::chip::Chip;
 use crate::density::Density;
 use crate::field::{self, LengthCodes, FLAG};
 use crate::layout;
-use crate::random::Random;
+use crate::random::{self, Random};
 use crate::script::{self, Parsed};
 use crate::tracks::{self, Plan};
 use edges::Obstacle;
@@ -50,8 +51,11 @@ const PROTECT: u8 = 2;
 const TRACK_0: u8 = 4;
 const HEAD_LOADED: u8 = 8;
 
-/// Lines that cannot be carried out; one of them may end a script.
-const BAD_LINES: [&str; 21] = [
+/// One seed in so many ends with a bad line.
+const BAD_LINE_ONE_IN: u64 = 4;
+
+/// Lines that cannot be carried out, some of them after one that can; one of them may end a script.
+const BAD_LINES: [&str; 23] = [
     "B 1",
     "G",
     "G 10000",
@@ -63,9 +67,11 @@ const BAD_LINES: [&str; 21] = [
     "P 0 800 2",
     "P 1 800 FFFF",
     "P 0 800 1 0",
-    "K 1901",
-    "V 1900 1",
-    "F 0 1901 0",
+    "K 28B1",
+    "K 28B0\nV 28B0 1",
+    "K 28B0\nV 28AF 2",
+    "K 28B0\nF 0 28B1 0",
+    "K 28B0\nC 28B0 0",
     "C 0",
     "Z",
     "b",
@@ -120,7 +126,7 @@ pub fn script(seed: u64) -> String {
             generator.scene();
         }
     }
-    generator.finish();
+    generator.finish(seed);
     line_ends::ended(generator.script, seed)
 }
 
@@ -137,7 +143,7 @@ pub fn long_script(seed: u64, byte_times: u64) -> LongScript {
     while generator.bench.byte_times < byte_times {
         generator.soaking_scene();
     }
-    generator.finish();
+    generator.finish(seed);
     LongScript {
         text: generator.script,
         byte_times: generator.bench.byte_times,
@@ -202,10 +208,10 @@ impl Generator {
     }
 
     /// The last cells of all, so that every write is compared; then at times a bad line.
-    fn finish(&mut self) {
+    fn finish(&mut self, seed: u64) {
         self.show_row();
-        if self.random.one_in(4) {
-            let bad = self.random.pick(&BAD_LINES);
+        if seed % BAD_LINE_ONE_IN == 1 {
+            let bad = random::in_turn(&BAD_LINES, seed / BAD_LINE_ONE_IN);
             self.script.push_str(&format!("{}\nU\n", bad));
         }
     }

@@ -6,8 +6,10 @@
 // the controller from a script, which comes in by a `session`; `generate` makes scripts from seeds,
 // `compare` holds another program to the bench, `soak` does so until millions of byte times have
 // passed, and `talk` awaits an answer to what it has typed. `coverage` counts the scripts that would
-// tell a machine which gets a sentence of the documents wrong.
-// `picture`, `viewer` and `list` are document 01's pictures and viewer, `vectors` its CRC vectors.
+// tell a machine which gets a sentence of the documents wrong, and the inputs that would tell such a
+// list.
+// `picture`, `viewer` and `list` are document 01's pictures and viewer, `vectors` its CRC vectors;
+// `pictures` makes inputs for the list from seeds.
 
 #![forbid(unsafe_code)]
 

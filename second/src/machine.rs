@@ -11,8 +11,9 @@ use crate::lines::Lines;
 use crate::number;
 use crate::status::{Status, StatusType, Surroundings};
 
+/// "L from 2,048"; "the largest ring goes from 6,400 to 10,416 cells". No other place has the range.
 pub const SHORTEST_TRACK: u16 = 2048;
-pub const LONGEST_TRACK: u16 = 6400;
+pub const LONGEST_TRACK: u16 = 10_416;
 
 #[derive(Clone, Copy, Debug, PartialEq, Eq)]
 pub enum Direction {

@@ -2,7 +2,7 @@
 
 /// Done.
 pub const DONE: u8 = 0;
-/// A length outside 2,048..6,400 at power-on or in the viewer.
+/// A length outside 2,048..10,416 at power-on or in the viewer.
 pub const LENGTH: u8 = 1;
 /// Position not below L, L out of range, or a count above the largest its activity holds.
 pub const MACHINE: u8 = 2;
@@ -16,7 +16,7 @@ pub const REGISTER: u8 = 5;
 pub const BUSY: u8 = 6;
 /// The byte is no command.
 pub const NO_COMMAND: u8 = 7;
-/// Picture kind is not 46 or 4D (hex).
+/// Picture kind is none of the four: 46, 4D, 66 and 6D (hex).
 pub const KIND: u8 = 8;
 /// Picture ends early or is empty.
 pub const CUT: u8 = 9;

@@ -44,3 +44,8 @@ impl Random {
         choices[self.below(choices.len())]
     }
 }
+
+/// The seed's choice: seeds in a row go through all of them.
+pub fn in_turn<T: Copy>(choices: &[T], seed: u64) -> T {
+    choices[(seed % choices.len() as u64) as usize]
+}

@@ -179,7 +179,7 @@ fn power_on_keeps_the_lines_and_makes_new_rows() {
 
 #[test]
 fn a_refused_power_on_keeps_the_rows() {
-    let script = "P 1 900\nP 1 7FF\nV 8FF 1\nB\nP 1 1901\nP 1 FFFF\n";
+    let script = "P 1 900\nP 1 7FF\nV 8FF 1\nB\nP 1 28B1\nP 1 FFFF\n";
     let state = "| 80 00 01 00 0 0 0000";
     let expected = format!(
         "P 00 {0}\nP 01 {0}\nV 004E\nB 03 00 {0}\nP 01 {0}\nP 01 {0}\n",
@@ -265,11 +265,14 @@ fn position_and_length_may_be_anything() {
 }
 
 #[test]
-fn rows_grow_with_0000_and_have_room_for_6400() {
+fn rows_grow_with_0000_and_have_room_for_10416() {
     assert_eq!(last_line("K 802\nV 7FF 3"), "V 00FF 0000 0000");
     assert_eq!(last_line("K 10\nK 12\nV F 3"), "V 00FF 0000 0000");
-    assert_eq!(last_line("K 1900"), "K");
-    assert_eq!(last_line("K 1901"), "error 1");
+    for taken in ["K 1900", "K 1901", "K 28B0"] {
+        assert_eq!(printed(taken), "K\n");
+    }
+    assert_eq!(printed("K 28B1"), "error 1\n");
+    assert_eq!(last_line("K 28B0\nU\nK 28B0\nU\nK 28B1"), "error 5");
     assert_eq!(last_line("K 0\nV 0 0"), "V");
 }
 
@@ -288,6 +291,47 @@ fn places_past_the_row_are_errors() {
     for good in ["F 7FF 1 0", "F 0 0 0", "V 0 0", "C 7FE 1 2"] {
         assert_ne!(printed(good), "error 1\n");
     }
+}
+
+#[test]
+fn the_last_cells_of_the_longest_rows_are_there() {
+    for begin in ["K 28B0", "P 0 28B0"] {
+        let at_end = format!("{}\nF 28AE 2 17\nC 28AF 18\nV 28AE 2\nV 28B0 0", begin);
+        assert!(printed(&at_end).ends_with("F\nC\nV 0017 0018\nV\n"));
+        assert!(printed(&format!("{}\nF 0 28B0 5\nV 28AF 1", begin)).ends_with("V 0005\n"));
+        for bad in [
+            "F 28AF 2 0",
+            "F 0 28B1 0",
+            "V 28B0 1",
+            "V 0 28B1",
+            "C 28B0 1",
+        ] {
+            assert_eq!(last_line(&format!("{}\n{}", begin, bad)), "error 2");
+        }
+    }
+}
+
+#[test]
+fn a_ring_has_10416_cells_at_most() {
+    let state = "| 80 00 01 00 0 0 0000";
+    assert_eq!(printed("P 1 28B0"), format!("P 00 {}\n", state));
+    assert_eq!(printed("P 1 28B1"), format!("P 01 {}\n", state));
+    assert_eq!(
+        last_line("P 1 28B0\nX 28AF\nB"),
+        format!("B 00 00 {}", state)
+    );
+    assert_eq!(
+        last_line("P 1 28B0\nX 28B0\nB"),
+        "B 02 00 | 00 00 01 00 0 0 28B0"
+    );
+    assert_eq!(
+        last_line("K 28B0\nY 28B0\nB"),
+        "B 00 00 | 82 00 01 00 0 0 0001"
+    );
+    assert_eq!(
+        last_line("K 28B0\nY 28B1\nB"),
+        "B 02 00 | 00 00 01 00 0 0 0000"
+    );
 }
 
 #[test]

@@ -324,6 +324,128 @@ fn a_wrong_viewer_is_shown_where_it_looks() {
 }
 
 #[test]
+fn a_limit_of_lengths_is_shown_by_the_lengths_round_it() {
+    let says = "1 now means outside 2,048..10,416";
+    let asks = |length: &str, does| shows(&[&format!("P 1 {}", length)], says, does);
+    for (does, shown, others) in [
+        ("6,400 at power-on", ["1901", "28B0"], ["1900", "28B1"]),
+        ("10,415 at power-on", ["28B0", "28B0"], ["28AF", "28B1"]),
+        ("10,417 at power-on", ["28B1", "28B1"], ["28B0", "28B2"]),
+    ] {
+        assert!(shown.iter().all(|length| asks(length, does)), "{}", does);
+        assert!(!others.iter().any(|length| asks(length, does)), "{}", does);
+    }
+    let views = |length: &str, does| shows(&[&format!("K {}", length), "Q 0 0 1"], says, does);
+    assert!(views("1901", "6,400 in the viewer"));
+    assert!(!views("1900", "6,400 in the viewer"));
+    assert!(views("28B0", "10,415 in the viewer"));
+    assert!(!views("28AF", "10,415 in the viewer"));
+}
+
+#[test]
+fn a_machine_out_of_range_is_shown_by_any_call() {
+    let says = "The largest ring goes from 6,400 to 10,416 cells.";
+    for call in ["R 1", "W 1 7", "B", "G 0"] {
+        let set = |length: &str, does| shows(&[&format!("Y {}", length), call], says, does);
+        assert!(set("1901", "2 above 6,400"));
+        assert!(!set("1900", "2 above 6,400"));
+        assert!(set("28B0", "2 above 10,415"));
+        assert!(!set("28B1", "2 above 10,415"));
+        assert!(set("28B1", "2 above 10,417"));
+        assert!(!set("28B2", "2 above 10,417"));
+    }
+    let rows = |ring: &str, row: &str, does| {
+        let lines = [
+            format!("P 0 {}", ring),
+            format!("K {}", row),
+            "B".to_string(),
+        ];
+        made_show(&lines, says, does)
+    };
+    assert!(rows("28B0", "8B0", "3 in 13 bits"));
+    assert!(!rows("28B0", "8B1", "3 in 13 bits"));
+    assert!(rows("28B0", "28AF", "3 not above 6,400"));
+    assert!(!rows("28B0", "1900", "3 not above 6,400"));
+}
+
+#[test]
+fn a_count_that_changes_is_shown_on_a_long_ring_alone() {
+    let says = "Bytes pass twice as fast";
+    let works = |length: &str, byte: &str, does| {
+        let power_on = format!("P 0 {}", length);
+        let ids = "C 12C 1FE 0 0 1 0 D2 C3\nC 1D6 1FE 0 0 1 0 D2 C3";
+        let command = format!("W 0 {}", byte);
+        shows(&[&power_on, ids, &command, "G FFFF"], says, does)
+    };
+    for (byte, does) in [
+        ("40", "step counts double"),
+        ("40", "step counts halve"),
+        ("C4", "settle counts double"),
+        ("14", "settle counts double"),
+        ("84", "settle counts halve"),
+        ("14", "settle counts halve"),
+    ] {
+        assert!(works("1901", byte, does), "{} {}", byte, does);
+        assert!(!works("1900", byte, does), "{} {}", byte, does);
+    }
+}
+
+#[test]
+fn a_long_search_is_shown_where_it_ends_too_early() {
+    let says = "Demand 3's formulas hold";
+    let searches = |length: &str, position: &str, does| {
+        let lines = [format!("P 1 {}", length), format!("X {}", position)];
+        let search = ["W 0 80".to_string(), "G FFFF".to_string()];
+        made_show(&[lines, search].concat(), says, does)
+    };
+    assert!(searches("28B0", "0", "it ends after 32,768"));
+    assert!(searches("2001", "0", "it ends after 32,768"));
+    assert!(!searches("1FFF", "0", "it ends after 32,768"));
+    assert!(searches("1FFF", "1", "it ends after 32,768"));
+    assert!(searches("1F41", "0", "it ends after 5 x 6,400"));
+    assert!(!searches("1900", "0", "it ends after 5 x 6,400"));
+}
+
+#[test]
+fn a_long_run_is_shown_where_it_counts_too_little() {
+    let says = "A run call makes byte times";
+    let runs = |ring: &str, position: &str, limit: &str, does| {
+        let lines = [
+            format!("P 0 {}", ring),
+            format!("X {}", position),
+            format!("G {}", limit),
+        ];
+        made_show(&lines, says, does)
+    };
+    assert!(runs("800", "0", "8000", "it counts in 15 bits"));
+    assert!(!runs("800", "0", "7FFF", "it counts in 15 bits"));
+    assert!(runs("800", "0", "8001", "it stops after 32,768"));
+    let both = "it stops where position and limit pass 65,535";
+    assert!(runs("28B0", "28AF", "FFFF", both));
+    assert!(runs("28B0", "1", "FFFF", both));
+    assert!(!runs("28B0", "0", "FFFF", both));
+    assert!(!runs("28B0", "28AF", "8000", both));
+    assert!(runs(
+        "28B0",
+        "28AF",
+        "FFFF",
+        "it leaves a position of 16 bits"
+    ));
+    assert!(!runs(
+        "28B0",
+        "0",
+        "FFFF",
+        "it leaves a position of 16 bits"
+    ));
+    assert!(!runs(
+        "1900",
+        "1",
+        "FFFF",
+        "it leaves a position of 16 bits"
+    ));
+}
+
+#[test]
 fn nothing_is_shown_by_lines_after_an_error() {
     let loads = |lines: &[&str]| shows(lines, "Writes 0 to 3", "1 loads nothing");
     assert!(loads(&["W 1 7"]));

@@ -253,12 +253,48 @@ fn in_mfm_f9_and_fa_are_passed_over_for_what_follows() {
 #[test]
 fn each_side_must_have_a_length_in_range_first_of_all() {
     let good = vec![0xFF; 2048];
-    for length in [0, 2047, 6401] {
+    for length in [0, 2047, 10_417] {
         let bad = vec![0x200; length];
         assert_empty(find(&bad, &good, Fm), number::LENGTH);
         assert_empty(find(&good, &bad, Fm), number::LENGTH);
     }
-    assert_empty(find(&good, &[0xFF; 6400], Fm), number::NO_SECTOR);
+    for length in [2048, 6400, 6401, 10_416] {
+        let long = vec![0xFF; length];
+        assert_empty(find(&long, &good, Fm), number::NO_SECTOR);
+        assert_empty(find(&good, &long, Fm), number::NO_SECTOR);
+    }
+}
+
+#[test]
+fn a_sector_is_found_up_to_the_last_cell_of_the_longest_side() {
+    for density in BOTH {
+        let field = field::mark_length(density) + 128 + 2;
+        let mark_at = 10 + field::mark_length(density);
+        let last = 10_416 - field::id_length(density) - 10 - field;
+        let empty = vec![layout::gap(density); 2048];
+        for (place, found) in [(6390, true), (8180, true), (last, true), (last + 1, false)] {
+            let mut cells = vec![layout::gap(density); 10_416];
+            put_sector(&mut cells, density, place, 0x61, mark_at);
+            let number = if found {
+                number::DONE
+            } else {
+                number::NO_SECTOR
+            };
+            assert_eq!(find(&cells, &empty, density).number, number);
+            let view = find(&empty, &cells, density);
+            assert_eq!((view.number, view.side), (number, u8::from(found)));
+        }
+    }
+}
+
+#[test]
+fn the_last_cell_of_the_longest_side_is_looked_at() {
+    let good = vec![0x1FF; 10_416];
+    let mut bad = good.clone();
+    bad[10_415] = 512;
+    assert_empty(find(&bad, &good, Fm), number::CELL);
+    assert_empty(find(&good, &bad, Fm), number::CELL);
+    assert_empty(find(&good, &good, Fm), number::NO_SECTOR);
 }
 
 #[test]

@@ -1,9 +1,9 @@
 -- Demand 2's first sentence for the first calls after power-on, from `demand-1` and `demand-2` alone. Assumes nothing.
-use mathlib.Core.Path.{_≡_, refl, sym, ap, _∙_}
+use mathlib.Core.Path.{_≡_, refl, sym, ap, _∙_, subst}
 use mathlib.Core.Bool.{Bool, true, cond}
 use mathlib.Core.Logic.{inl, inr}
 use mathlib.Core.List.{List}
-use Prim.Native.Nat.{ℕ, _+_}
+use Prim.Native.Nat.{ℕ, _+_, _≤_}
 use native.Mathlib.Omega.{arith}
 use lib.Dec.{eqb}
 use Rattle.scan.specs.Rows.{lengthWithin}
@@ -13,6 +13,7 @@ use Rattle.act.specs.Turns.{begunActivity, activityAct, actOf}
 use Rattle.registers.specs.declared.Lines.{Lines}
 use Rattle.registers.specs.Rings.{ringWithin, ringNext, seenOf, conditionMet}
 use Rattle.registers.specs.Registers.{readRefusal, readByte, guarded, loadRefusal, loadRegs, loadWires}
+use Rattle.wd.specs.declared.Started.{Started}
 use Rattle.wd.specs.declared.Loaded.{Loaded}
 use Rattle.wd.specs.declared.Read.{Read}
 use Rattle.wd.specs.declared.Ran.{Ran}
@@ -23,6 +24,7 @@ use Rattle.wd.specs.Loads.{loadRegister}
 use Rattle.wd.specs.Turns.{actApplied, cellTurn}
 use Rattle.wd.specs.Rows.{rowRefusal, doneBy, byteTime, byteTimeRow, tallied, countedOf, ranTo, emptyRun, stopsAt, onward, runsOn, runFrom}
 use Rattle.reachable.proofs.Samples.{empty}
+use Rattle.reachable.proofs.Valid.{Valid, power-on-valid}
 use Rattle.safe.specs.Demand1.{AtPowerOn, power-on-1}
 use Rattle.hosts.specs.Hosts.{Desk, calledAll, servedAt, at}
 use Rattle.command.specs.declared.Chip.{Chip}
@@ -31,13 +33,13 @@ use Rattle.common.specs.Bits.{bitOf}
 use Rattle.command.specs.Commands.{classOf}
 use Rattle.accepting.specs.Accepting.{conditionsFor}
 use Rattle.in_time.proofs.Scenes.{fresh}
-use Rattle.uses.specs.Contracts.{LoadCall, ReadCall, ByteTimeCall, RunCall}
+use Rattle.uses.specs.Contracts.{PowerOnCall, PoweredOn, LoadCall, ReadCall, ByteTimeCall, RunCall}
 use Rattle.uses.specs.Uses.{load, read, byte-time, run, Use, over, next, definedBy, documented, answeredBy, Answered, passedIn, passed, passesThen, madeThen, hostOf, dueAt}
 use Rattle.uses.specs.Courses.{silent}
 use Rattle.demands.proofs.Demand1.{demand-1}
 use Rattle.demands.proofs.Demand2.{demand-2}
 use Rattle.applied.specs.FirstCalls.{FirstCalls}
-use Rattle.applied.proofs.Conditions.{one-with-u, taken as accepted}
+use Rattle.applied.proofs.Conditions.{is-one, one-with-u, accepts, taken as accepted}
 
 abbrev start : Bool → Chip → Desk
 start mfm chip = record { machine = fresh mfm chip; row = empty }
@@ -116,17 +118,33 @@ side-on mfm l l′ r s first second =
           ∙ on,
     )
 
+-- ---- power-on
+
+module _ (size : ℕ) (mfm : Bool) (chip : Chip) (r : Started) (least : 2048 ≤ size) (most : size ≤ 10416)
+    (call : PowerOnCall size mfm chip r) where
+  taken : r .number ≡ 0
+  taken = demand-1 .power-on size mfm chip r call .given .done .1 none
+    where
+      none : (j : ℕ) → AtPowerOn size j → ⊥
+      none j (power-on-1 out) = out (least, most)
+
+  powered : PoweredOn size mfm chip (r .machine)
+  powered = demand-2 .starts size mfm chip r call taken
+
+  reads : (l : Lines) (s : Loaded) → LoadCall (r .machine) l 0 0x80 s → s .number ≡ 0
+  reads l s loads =
+      let holds = subst (λ (q : Started). Valid (q .machine)) (sym (call .told)) (power-on-valid size mfm chip) in
+      let none = accepts (r .machine) l holds (powered .idle) 0x80 (is-one (r .machine .chip)) in
+      demand-1 .load (r .machine) l 0 0x80 s loads .given .done .1 none
+
 pub first-calls : FirstCalls
 first-calls =
     record {
-      starts = λ mfm chip r call.
-          let is = demand-1 .power-on 2048 mfm chip r call .given .done .1 taken in
-          let on = demand-2 .starts 2048 mfm chip r call is in
-          (is, on .ring, on .regs, on .chip-named, on .side-output);
+      starts = λ size mfm chip r least most call.
+          let on = powered size mfm chip r least most call in
+          (taken size mfm chip r least most call, on .ring, on .regs, on .chip-named, on .side-output);
+      accepts = λ size mfm chip l r s least most call. reads size mfm chip r least most call l s;
       side-output = side-on;
       exactly = three-calls;
       one-by-one = same-left;
     }
-  where
-    taken : (j : ℕ) → AtPowerOn 2048 j → ⊥
-    taken j (power-on-1 out) = out (omega arith, omega arith)

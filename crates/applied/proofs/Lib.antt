@@ -2,6 +2,7 @@
 pub mod Conditions
 pub mod HighCells
 pub mod Refusals
+pub mod Pictures
 pub mod Commands
 pub mod FirstCalls
 pub mod Sector

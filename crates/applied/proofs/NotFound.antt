@@ -1,4 +1,4 @@
--- Demand 3 over empty tracks, from `demand-3` alone. Assumes nothing.
+-- Demand 3 over empty tracks, from `demand-1` and `demand-3` alone. Assumes nothing.
 use mathlib.Core.Path.{_≡_, refl, sym, ap, _∙_, subst}
 use mathlib.Core.Bool.{Bool, true, false, cond}
 use mathlib.Core.List.{List}
@@ -94,6 +94,8 @@ not-found =
           late-over L mfm 0x80 cell read-80 c is e u head alone (omega (arith, late));
       from-0 = λ mfm. takes 2048 mfm 0x80 0 read-80 0 8192 refl (omega arith) refl;
       from-1 = λ mfm. takes 2048 mfm 0x80 1 read-80 1 10239 refl (omega arith) refl;
+      longest-from-0 = λ mfm. takes 10416 mfm 0x80 0 read-80 0 41664 refl (omega arith) refl;
+      longest-from-1 = λ mfm. takes 10416 mfm 0x80 1 read-80 1 52079 refl (omega arith) refl;
       fm-from-0 = takes 2048 false 0x84 1579 read-84 0 8192 refl (omega arith) refl;
       fm-from-1 = takes 2048 false 0x84 1580 read-84 1 10239 refl (omega arith) refl;
       mfm-from-0 = takes 2048 true 0x84 1110 read-84 0 8192 refl (omega arith) refl;

@@ -51,6 +51,7 @@ unfolding powerOn lengthWithin freshMachine
 refusals =
     record {
       short = no-power-on 2047 (λ (least, most). omega arith);
+      long = no-power-on 10417 (λ (least, most). omega arith);
       command = λ mfm chip l r call.
           demand-1 .load (fresh mfm chip) l 0 0x80 r call .given .done .1 (taken mfm chip l 0x80 (is-one chip));
       no-command = λ mfm chip l. no-command mfm chip l 0x9F (is-none chip);

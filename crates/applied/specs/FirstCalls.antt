@@ -2,7 +2,7 @@
 use mathlib.Core.Path.{_≡_}
 use mathlib.Core.Bool.{Bool, true, false}
 use mathlib.Core.List.{List}
-use Prim.Native.Nat.{ℕ}
+use Prim.Native.Nat.{ℕ, _≤_}
 use Rattle.registers.specs.declared.Lines.{Lines}
 use Rattle.wd.specs.declared.Started.{Started}
 use Rattle.wd.specs.declared.Loaded.{Loaded}
@@ -16,15 +16,24 @@ use Rattle.in_time.proofs.Scenes.{fresh}
 use Rattle.uses.specs.Contracts.{PowerOnCall, LoadCall, ReadCall, ByteTimeCall, RunCall}
 
 pub record FirstCalls : Type 0 where
-  -- "L .. 2,048, 6,400 taken", and "position 0, track register (TR) 0, sector register (SR) 1, data register (DR) 0"; "Power-on names
-  -- the chip."
-  pub starts : (mfm : Bool) (chip : Chip) (r : Started)
-      → PowerOnCall 2048 mfm chip r
+  -- "2,048, .. taken", "10,416 taken", and each length between; "position 0, track register (TR) 0, sector register (SR) 1, data
+  -- register (DR) 0"; "Power-on names the chip."
+  pub starts : (size : ℕ) (mfm : Bool) (chip : Chip) (r : Started)
+      → 2048 ≤ size
+      → size ≤ 10416
+      → PowerOnCall size mfm chip r
       → (r .number ≡ 0)
-      × (r .machine .ring ≡ record { length = 2048; position = 0 })
+      × (r .machine .ring ≡ record { length = size; position = 0 })
       × (r .machine .regs ≡ record { tr = 0; sr = 1; dr = 0 })
       × (r .machine .chip ≡ chip)
       × (r .machine .sso ≡ false)
+  -- a machine of each of these lengths accepts a Read Sector, so the premises of demand 3 can be met at each length
+  pub accepts : (size : ℕ) (mfm : Bool) (chip : Chip) (l : Lines) (r : Started) (s : Loaded)
+      → 2048 ≤ size
+      → size ≤ 10416
+      → PowerOnCall size mfm chip r
+      → LoadCall (r .machine) l 0 0x80 s
+      → s .number ≡ 0
   -- "U goes to the side output at acceptance": a Read Address with U turns it on, whatever the lines, and a Force Interrupt leaves it
   pub side-output : (mfm : Bool) (l l′ : Lines) (r s : Loaded)
       → LoadCall (fresh mfm Wd1797) l 0 0xC2 r
@@ -36,7 +45,7 @@ pub record FirstCalls : Type 0 where
       → ByteTimeCall (r .machine) l′ empty p row
       → ReadCall (p .machine) l″ 1 q
       → (q .byte ≡ 5) × (q .machine .regs .tr ≡ 5) × (q .machine .ring .position ≡ 1) × (row ≡ empty)
-  -- "a run call makes byte times": one of limit 1 leaves what a byte time leaves
+  -- "A run call makes byte times": one of limit 1 leaves what a byte time leaves
   pub one-by-one : (mfm : Bool) (chip : Chip) (l : Lines) (p : Passed) (r : Ran) (row row′ : List ℕ)
       → ByteTimeCall (fresh mfm chip) l empty p row
       → RunCall (fresh mfm chip) l 1 empty r row′

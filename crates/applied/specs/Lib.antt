@@ -1,5 +1,6 @@
 -- What the demands come to on given machines and tracks.
 pub mod Refusals
+pub mod Pictures
 pub mod FirstCalls
 pub mod Sector
 pub mod NotFound

@@ -1,4 +1,4 @@
--- Demand 3 over empty tracks: the byte times that a Read Sector takes there. Assumes nothing.
+-- Demand 3 over empty tracks, the shortest and the longest: the byte times that a Read Sector takes there. Assumes nothing.
 use mathlib.Core.Path.{_≡_}
 use mathlib.Core.Bool.{Bool, true, false}
 use mathlib.Core.List.{List}
@@ -47,6 +47,9 @@ pub record NotFound : Type 0 where
   -- "No match, L 2,048: search from cell 0 ends at byte time 8,193, from cell 1 at 10,240."
   pub from-0 : (mfm : Bool) → TakesThere 2048 mfm 0x80 0 8193
   pub from-1 : (mfm : Bool) → TakesThere 2048 mfm 0x80 1 10240
+  -- "Demand 3's formulas hold over the new range."
+  pub longest-from-0 : (mfm : Bool) → TakesThere 10416 mfm 0x80 0 41665
+  pub longest-from-1 : (mfm : Bool) → TakesThere 10416 mfm 0x80 1 52080
   -- "Counted after settling": with E that takes the head 469 (FM) or 938 (MFM) cells on, here to cell 0 and to cell 1
   pub fm-from-0 : TakesThere 2048 false 0x84 1579 (469 + 8193)
   pub fm-from-1 : TakesThere 2048 false 0x84 1580 (469 + 10240)

@@ -23,8 +23,9 @@ high = replicate sampleLength 512
 
 -- the machine at power-on, of either density and chip, under any lines
 pub record Refusals : Type 0 where
-  -- "L 2,047, 6,401 refused 1": "power-on FM machine of 2,048"
+  -- "L 2,047, .. refused 1", "10,417 refused": "power-on FM machine of 2,048"
   pub short : (mfm : Bool) (chip : Chip) (r : Started) → PowerOnCall 2047 mfm chip r → (r .number ≡ 1) × (r .machine ≡ fresh false chip)
+  pub long : (mfm : Bool) (chip : Chip) (r : Started) → PowerOnCall 10417 mfm chip r → (r .number ≡ 1) × (r .machine ≡ fresh false chip)
   -- "80, C4 accepted; 9F, C3 refused 7"
   pub command : (mfm : Bool) (chip : Chip) (l : Lines) (r : Loaded) → LoadCall (fresh mfm chip) l 0 0x80 r → r .number ≡ 0
   pub no-command : (mfm : Bool) (chip : Chip) (l : Lines) (r : Loaded)

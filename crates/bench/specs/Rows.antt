@@ -6,7 +6,7 @@ use lib.ListN.{length}
 use Rattle.scan.specs.Rows.{longestRow}
 use Rattle.bench.specs.declared.rows.Rows.{Rows}
 
--- "There is room for 6,400 cells in each", one after the other
+-- "There is room for 10,416 cells in each", one after the other
 abbrev pub bothRows : ℕ
 bothRows = 2 * longestRow
 

@@ -12,9 +12,9 @@ use Rattle.wd.specs.Loads.{loadRegister}
 use Rattle.wd.specs.Reads.{readRegister}
 use Rattle.wd.specs.Rows.{byteTime, byteTimeRow, runOf}
 
--- "L from 2,048 to 6,400": room for a row one cell longer
+-- "The largest ring goes from 6,400 to 10,416 cells.": room for a row one cell longer
 abbrev pub roomForCells : ℕ
-roomForCells = 6401
+roomForCells = 10417
 
 -- the machine of power-on, but for its ring and its activity
 unfoldable pub machineWith : Ring → Activity → Machine

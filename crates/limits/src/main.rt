@@ -15,7 +15,7 @@ use libc::STDOUT_FILENO;
 use registers::Ring;
 
 // Room for the row of the longest ring that is tried, which is one cell too long.
-const ROOM: usize = 6401;
+const ROOM: usize = 10417;
 
 // A machine to try: its ring and its activity, and the number in one of them that refusal 2 is to look at.
 struct Tried {
@@ -154,11 +154,11 @@ fn print_writes() {
     print_count(b"put left", Count::PutLeft, 1027);
 }
 
-// "position not below L, L out of range"; "L from 2,048 to 6,400".
+// "position not below L, L out of range"; "outside 2,048..10,416".
 fn print_rings() {
     print_line(b"position", at_position(2047), at_position(2048));
     print_line(b"shortest length", of_length(2048), of_length(2047));
-    print_line(b"longest length", of_length(6400), of_length(6401));
+    print_line(b"longest length", of_length(10416), of_length(10417));
 }
 
 fn main() {

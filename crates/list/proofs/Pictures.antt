@@ -35,7 +35,7 @@ module _ (bytes room : List ℕ) where
       length-take-le (shape .length) (readerRoom bytes room)
       (omega (arith, room-length bytes room, kind-length (answer .kind) .1))
 
-  -- "F or M, track, side as one digit; IDs by cell of FE, round the ring", `ids` and how many
+  -- "F or M", "f and m", "track, side as one digit; IDs by cell of FE, round the ring", `ids` and how many
   pub prints : length room ≡ longestRow → answer .number ≡ 0 → (fes : List ℕ) → ByCell (shape .mfm) row fes
       → pictureText bytes room
       ≡ headText (shape .letter) (answer .track) (answer .side)

@@ -27,7 +27,7 @@ newline = 0x0A
 unfoldable pub byteText : ℕ → List ℕ
 byteText b = space ∷ digitOf (b / 16) ∷ digitOf b ∷ []
 
--- "F or M, track, side as one digit"
+-- "F or M, track, side as one digit", and "The list prints f and m as the kind."
 unfoldable pub headText : ℕ → ℕ → ℕ → List ℕ
 headText letter track side =
     letter ∷ space ∷ digitOf (track / 16) ∷ digitOf track ∷ space ∷ digitOf side ∷ newline ∷ []

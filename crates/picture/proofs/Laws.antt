@@ -9,7 +9,7 @@ use lib.ListN.{length, getD}
 use Rattle.common.proofs.Laid.{first-places, laid-length, laid-in, laid-out}
 use Rattle.scan.specs.Rows.{shortestRow, longestRow}
 use Rattle.picture.specs.declared.Kind.{Kind}
-use Rattle.picture.specs.declared.Kind.the-variants.{Fm, Mfm}
+use Rattle.picture.specs.declared.Kind.the-variants.{Fm, Mfm, EightInchFm, EightInchMfm}
 use Rattle.picture.specs.declared.Named.{Named}
 use Rattle.picture.specs.declared.Named.the-variants.{Known, Unknown}
 use Rattle.picture.specs.declared.Verdict.{Verdict}
@@ -24,6 +24,8 @@ pub kind-length : (k : Kind) → (shortestRow ≤ lengthOf k) × (lengthOf k ≤
 unfolding shapeOf
 kind-length Fm = (omega arith, omega arith)
 kind-length Mfm = (omega arith, omega arith)
+kind-length EightInchFm = (omega arith, omega arith)
+kind-length EightInchMfm = (omega arith, omega arith)
 
 -- the kind of a kind byte, FM where it is none's
 abbrev kindIn : Named → Kind

@@ -19,7 +19,7 @@ cellPlace k i = record { byte = 3 + i; flags = 3 + lengthOf k + i / 8 }
 abbrev pub flagBytes : ℕ → ℕ
 flagBytes cells = (cells + 7) / 8
 
--- "body 3,518; .. body 7,034": track, side, data bytes and flag bytes
+-- "body 3,518; .. body 7,034", and "body 5,861; .. body 11,720": track, side, data bytes and flag bytes
 unfoldable pub bodyLength : Kind → ℕ
 bodyLength k = 2 + lengthOf k + flagBytes (lengthOf k)
 

@@ -25,7 +25,7 @@ judgedFor bytes room k =
     cond (leb (length bytes) (bodyLength k)) (Refused 9)
     (cond (ltb room (lengthOf k)) (Refused 12) (cond (soundOf k bytes) (Sound k) (Refused 10)))
 
--- .. then 8: "picture kind is not 46 or 4D (hex)"
+-- .. then 8: "any kind but the four"
 unfoldable pub judgedOf : List ℕ → ℕ → Named → Verdict
 judgedOf bytes room (Known k) = judgedFor bytes room k
 judgedOf bytes room Unknown = Refused 8

@@ -15,6 +15,8 @@ pub const LONGEST: usize = 3 + scan::LONGEST_ROW + (scan::LONGEST_ROW + 7) / 8;
 pub enum Kind {
     Fm,
     Mfm,
+    EightInchFm,
+    EightInchMfm,
 }
 
 // What a picture is of: the letter that stands for it, the density, and the cells of the track.
@@ -57,6 +59,8 @@ fn kind_of(byte: u8) -> Named
     match byte {
         0x46 => Named::Known(Kind::Fm),
         0x4D => Named::Known(Kind::Mfm),
+        0x66 => Named::Known(Kind::EightInchFm),
+        0x6D => Named::Known(Kind::EightInchMfm),
         _ => Named::Unknown,
     }
 }
@@ -79,6 +83,8 @@ impl Kind {
         match self {
             Kind::Fm => shaped(b'F', false, 3125),
             Kind::Mfm => shaped(b'M', true, 6250),
+            Kind::EightInchFm => shaped(b'f', false, 5208),
+            Kind::EightInchMfm => shaped(b'm', true, 10416),
         }
     }
 

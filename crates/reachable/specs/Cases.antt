@@ -23,7 +23,7 @@ givenBy mfm chip l (size length) = powerOn length mfm chip .number
 
 -- "FE gives EF21, FB BF84, F8 8FE7; A1 A1 A1 CDB4, then FE B230; FE 00 00 01 00 D2C3."
 -- "80, C4 accepted; 9F, C3 refused 7."
--- "L 2,047, 6,401 refused 1; 2,048, 6,400 taken."
+-- "L 2,047, .. refused 1; 2,048, .. taken."; "01's case becomes 10,416 taken, 10,417 refused"
 abbrev pub marked : List (Case × ℕ)
 marked =
     (field (0xFE ∷ []), 0xEF21)
@@ -37,7 +37,7 @@ marked =
     ∷ (command 0x9F, 7)
     ∷ (command 0xC3, 7)
     ∷ (size 2047, 1)
-    ∷ (size 6401, 1)
+    ∷ (size 10417, 1)
     ∷ (size 2048, 0)
-    ∷ (size 6400, 0)
+    ∷ (size 10416, 0)
     ∷ []

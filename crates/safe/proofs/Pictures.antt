@@ -14,14 +14,14 @@ use Rattle.common.proofs.Cases.{by-cond, never, both, all}
 use Rattle.common.specs.Bits.{bitOf}
 use Rattle.picture.specs.declared.Answer.{Answer}
 use Rattle.picture.specs.declared.Kind.{Kind}
-use Rattle.picture.specs.declared.Kind.the-variants.{Fm, Mfm}
+use Rattle.picture.specs.declared.Kind.the-variants.{Fm, Mfm, EightInchFm, EightInchMfm}
 use Rattle.picture.specs.Kinds.{kindOf, shapeOf, lengthOf}
 use Rattle.picture.specs.Layout.{flagBytes, bodyLength, cellPlace, flagIn, cellFrom, pictureCell, paddingClear}
 use Rattle.picture.specs.Reader.{soundOf, judgedFor, judgedOf, verdictOf, refusedBy, takenFrom, answerOf, readerAnswer, readerRoom}
 use Rattle.picture.proofs.Padding.{spare-clear, clear-spare}
 use Rattle.picture.proofs.Laws.{kindFor, room-length, answer-taken, room-within, room-beyond, refused-leaves}
 use Rattle.safe.specs.Demand1.{InTurn}
-use Rattle.safe.specs.Pictures.{Form, flagsLast, IsKind, fm, mfm, kindByte, sideByte, flagBit, cellOfPicture, PaddingSet, readerOrder, Empty, NoKind, EndsEarly, NoRoom, Unsound, AtReader, empty, no-kind, ends-early, no-room, unsound, TakenPicture, SafePicture}
+use Rattle.safe.specs.Pictures.{Form, flagsLast, IsKind, fm, mfm, eight-inch-fm, eight-inch-mfm, kindByte, sideByte, flagBit, cellOfPicture, PaddingSet, readerOrder, Empty, NoKind, EndsEarly, NoRoom, Unsound, AtReader, empty, no-kind, ends-early, no-room, unsound, TakenPicture, SafePicture}
 use Rattle.safe.proofs.Refusals.{first-turn, nothing}
 
 -- ---- padding
@@ -102,8 +102,10 @@ kind-form : {b : ℕ} {form : Form} → IsKind b form → form ≡ formOf (kindF
 unfolding kindOf shapeOf bodyLength
 kind-form (fm e) = rw e refl
 kind-form (mfm e) = rw e refl
+kind-form (eight-inch-fm e) = rw e refl
+kind-form (eight-inch-mfm e) = rw e refl
 
-same-kind : {b : ℕ} {form form′ : Form} → IsKind b form → IsKind b form′ → form ≡ form′
+pub same-kind : {b : ℕ} {form form′ : Form} → IsKind b form → IsKind b form′ → form ≡ form′
 same-kind is is′ = kind-form is ∙ sym (kind-form is′)
 
 module _ (bytes : List ℕ) (room : ℕ) where
@@ -202,13 +204,23 @@ module _ (bytes : List ℕ) (room : ℕ) where
       by-cond (λ n. Told (answerOf bytes (judgedOf bytes room n))) (eqb (kindByte bytes) 0x4D)
       (λ g. kind-given Mfm (mfm (eqb-true _ _ g)) some)
       (λ g.
-      turn 1 (omega arith) (no-kind (none (eqb-false _ _ f) (eqb-false _ _ g)))
+      by-cond (λ n. Told (answerOf bytes (judgedOf bytes room n))) (eqb (kindByte bytes) 0x66)
+      (λ h. kind-given EightInchFm (eight-inch-fm (eqb-true _ _ h)) some)
+      (λ h.
+      by-cond (λ n. Told (answerOf bytes (judgedOf bytes room n))) (eqb (kindByte bytes) 0x6D)
+      (λ i. kind-given EightInchMfm (eight-inch-mfm (eqb-true _ _ i)) some)
+      (λ i.
+      turn 1 (omega arith)
+      (no-kind (none (eqb-false _ _ f) (eqb-false _ _ g) (eqb-false _ _ h) (eqb-false _ _ i)))
       (reader-rows (λ t. 1 ≤ t) (λ h. absurd (some h)) (λ h. omega arith) (λ form j h. omega arith)
-      (λ form j h. omega arith) (λ form j h. omega arith)))))
+      (λ form j h. omega arith) (λ form j h. omega arith)))))))
     where
-      none : (kindByte bytes ≡ 0x46 → ⊥) → (kindByte bytes ≡ 0x4D → ⊥) → NoKind bytes
-      none f g form (fm e) = f e
-      none f g form (mfm e) = g e
+      none : (kindByte bytes ≡ 0x46 → ⊥) → (kindByte bytes ≡ 0x4D → ⊥)
+          → (kindByte bytes ≡ 0x66 → ⊥) → (kindByte bytes ≡ 0x6D → ⊥) → NoKind bytes
+      none f g h i form (fm e) = f e
+      none f g h i form (mfm e) = g e
+      none f g h i form (eight-inch-fm e) = h e
+      none f g h i form (eight-inch-mfm e) = i e
 
 -- ---- what is taken
 

@@ -27,9 +27,9 @@ use Rattle.reachable.specs.Limits.{EachCount, Within}
 abbrev pub Between : ℕ → ℕ → ℕ → Type 0
 Between first last n = (first ≤ n) × (n ≤ last)
 
--- 1: "a length outside 2,048..6,400"
+-- 1: "outside 2,048..10,416"
 abbrev pub OutOfRange : ℕ → Type 0
-OutOfRange size = Between 2048 6400 size → ⊥
+OutOfRange size = Between 2048 10416 size → ⊥
 
 -- 2: "position not below L, L out of range, or a count above the largest its activity holds in any machine grown from
 -- power-on": the limits of `Limits`, which no such machine goes above and each of which one reaches

@@ -35,10 +35,13 @@ flagsLast letter mfm L body =
       flagByte = λ i. 3 + L + i / 8;
     }
 
--- "46 FM, L 3,125, body 3,518; 4D MFM, L 6,250, body 7,034"; "F or M": the byte is a kind's, with its form
+-- "46 FM, L 3,125, body 3,518; 4D MFM, L 6,250, body 7,034", "F or M"; "66 FM, 5,208 cells, body 5,861; 6D MFM, 10,416 cells, body
+-- 11,720", "The list prints f and m as the kind.": the byte is a kind's, with its form
 pub data IsKind (byte : ℕ) : Form → Type 0 where
   fm : byte ≡ 0x46 → IsKind byte (flagsLast 0x46 false 3125 3518)
   mfm : byte ≡ 0x4D → IsKind byte (flagsLast 0x4D true 6250 7034)
+  eight-inch-fm : byte ≡ 0x66 → IsKind byte (flagsLast 0x66 false 5208 5861)
+  eight-inch-mfm : byte ≡ 0x6D → IsKind byte (flagsLast 0x6D true 10416 11720)
 
 abbrev pub kindByte : List ℕ → ℕ
 kindByte bytes = getD bytes 0 0
@@ -70,7 +73,7 @@ pub record PaddingSet (bytes : List ℕ) (form : Form) : Type 0 where
 abbrev pub Empty : List ℕ → Type 0
 Empty bytes = length bytes ≡ 0
 
--- 8: "picture kind is not 46 or 4D (hex)"
+-- 8: "any kind but the four"
 abbrev pub NoKind : List ℕ → Type 0
 NoKind bytes = (form : Form) → IsKind (kindByte bytes) form → ⊥
 

@@ -10,7 +10,7 @@ use Rattle.safe.specs.Demand1.{OutOfRange, Given}
 
 -- ---- the conditions
 
--- 1: "a length outside 2,048..6,400 .. in the viewer"
+-- 1: "a length outside .. in the viewer"
 abbrev pub WrongLength : List ℕ → List ℕ → Type 0
 WrongLength s0 s1 = OutOfRange (length s0) ⊎ OutOfRange (length s1)
 

@@ -6,10 +6,10 @@ ghost use Rattle.scan.specs.Rows.{lengthWithin};
 ghost use Rattle.scan.specs.DataMarks.{densityHas, metIn, dataMarkOf, dataMarkIn, dataMarkStep, markByte, isDeleted, windowOf};
 ghost use Rattle.scan.specs.Ids.{idBegun, runIn, idByteStep, idCellStep, idMarkStep, idStep};
 
-// The range of a row's length. The rows of every program follow from it.
+// The range of a row's length. The rows of `bench` and `list` follow from it.
 pub const SHORTEST_ROW: usize = 2048;
 
-pub const LONGEST_ROW: usize = 6400;
+pub const LONGEST_ROW: usize = 10416;
 
 // A1 with missing clocks, and how many of them stand before a mark's byte in MFM.
 pub const SYNC: u16 = 0x1A1;

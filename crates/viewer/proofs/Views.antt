@@ -132,7 +132,7 @@ module _ (s0 s1 : List ℕ) (mfm : Bool) (track sector : ℕ) where
   told : (p : Place) → place ≡ p → numberOf place ≡ numberOf p
   told p e = ap numberOf e
 
-  -- 1: "a length outside 2,048..6,400 .. in the viewer"
+  -- 1: "a length outside .. in the viewer"
   pub refused-1 : (numberOf place ≡ 1) ↔ (lengths ≡ false)
   refused-1 = (λ e. by which e, λ l. told (Refused 1) (lengths-refused l))
     where

@@ -16,7 +16,7 @@ unfoldable pub cellsWithin : List ℕ → Bool
 cellsWithin [] = true
 cellsWithin (cell ∷ row) = leb cell 511 && cellsWithin row
 
--- "Lowest first": 1, "a length outside 2,048..6,400 .. in the viewer", before 4, "any cell lent to the viewer, is above 511"
+-- "Lowest first": 1, "a length outside .. in the viewer", before 4, "any cell lent to the viewer, is above 511"
 unfoldable pub viewRefusal : List ℕ → List ℕ → ℕ
 viewRefusal s0 s1 =
     cond (lengthWithin (length s0) && lengthWithin (length s1)) (cond (cellsWithin s0 && cellsWithin s1) 0 4) 1

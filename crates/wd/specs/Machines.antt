@@ -39,7 +39,7 @@ freshMachine length mfm chip =
       activity = Idle;
     }
 
--- 1: "a length outside 2,048..6,400 at power-on": "power-on FM machine of 2,048", of the chip that was named
+-- 1: "a length outside .. at power-on": "power-on FM machine of 2,048", of the chip that was named
 unfoldable pub powerOn : ℕ → Bool → Chip → Started
 powerOn length mfm chip =
     cond (lengthWithin length)

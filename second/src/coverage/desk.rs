@@ -2,7 +2,7 @@
 
 use std::mem;
 
-use super::step::{Call, Outcome, Step};
+use super::step::{Call, Outcome, RunSoFar, Step};
 use crate::bench::{self, Bench};
 use crate::chip::Chip;
 use crate::density::Density;
@@ -51,8 +51,19 @@ impl Desk<'_> {
 
     /// What comes of a call, right or not. The machine goes back to the bench.
     fn meet(&mut self, call: Call, before: &Machine, right: Outcome) -> Outcome {
+        self.meet_in_run(None, call, before, right)
+    }
+
+    fn meet_in_run(
+        &mut self,
+        run: Option<RunSoFar>,
+        call: Call,
+        before: &Machine,
+        right: Outcome,
+    ) -> Outcome {
         let step = Step {
             call,
+            run,
             before,
             lines: self.bench.lines,
             row: &self.bench.current,
@@ -103,7 +114,8 @@ impl Desk<'_> {
         let done = printed.starts_with("P 00");
         let number = if done { number::DONE } else { number::LENGTH };
         let right = Outcome::of(number, self.take());
-        let outcome = self.meet(Call::PowerOn, &before, right);
+        let length = line.numbers[1];
+        let outcome = self.meet(Call::PowerOn { length }, &before, right);
         Some(vec![u16::from(outcome.number)])
     }
 
@@ -126,13 +138,13 @@ impl Desk<'_> {
     }
 
     fn byte_time(&mut self) -> Vec<u16> {
-        let outcome = self.pass();
+        let outcome = self.pass(None);
         let pulse = pulses(&outcome, Direction::In) + 2 * pulses(&outcome, Direction::Out);
         vec![u16::from(outcome.number), pulse]
     }
 
-    /// A byte time. The cell is as it was until it is known what comes of it.
-    fn pass(&mut self) -> Outcome {
+    /// A byte time, alone or of a run. The cell is as it was until it is known what comes of it.
+    fn pass(&mut self, run: Option<RunSoFar>) -> Outcome {
         let before = self.take();
         let place = usize::from(before.position);
         let cell = self.bench.current.get(place).copied().unwrap_or(0);
@@ -142,7 +154,7 @@ impl Desk<'_> {
         let mut right = Outcome::of(answer.number, answer.machine);
         right.pulse = answer.pulse;
         right.cell = self.put(place, cell);
-        let outcome = self.meet(Call::ByteTime, &before, right);
+        let outcome = self.meet_in_run(run, Call::ByteTime, &before, right);
         self.put(place, outcome.cell);
         outcome
     }
@@ -156,19 +168,26 @@ impl Desk<'_> {
     }
 
     fn run(&mut self, limit: u16) -> Vec<u16> {
-        let (mut passed, mut pulses_in, mut pulses_out) = (0, 0, 0);
+        let mut run = RunSoFar {
+            limit,
+            from: self.bench.machine.position,
+            passed: 0,
+        };
+        let (mut uncounted, mut pulses_in, mut pulses_out) = (0, 0, 0);
         let mut number = self.begin_run(limit);
         let mut going = number == number::DONE;
-        while going && passed < limit {
-            let outcome = self.pass();
+        while going && run.passed < limit {
+            let outcome = self.pass(Some(run));
             number = outcome.number;
-            passed += u16::from(number == number::DONE);
+            run.passed += u16::from(number == number::DONE);
+            uncounted += outcome.uncounted;
             pulses_in += pulses(&outcome, Direction::In);
             pulses_out += pulses(&outcome, Direction::Out);
             let stops = self.bench.machine.data_request || self.bench.machine.interrupt_request;
-            going = number == number::DONE && (!stops || outcome.goes_on);
+            going = number == number::DONE && !outcome.stops && (!stops || outcome.goes_on);
         }
-        vec![u16::from(number), passed, pulses_in, pulses_out]
+        let counted = run.passed - uncounted;
+        vec![u16::from(number), counted, pulses_in, pulses_out]
     }
 
     /// A run with limit 0 shows what a run looks at first.

@@ -3,6 +3,7 @@
 mod accepting;
 mod accepts;
 mod chips;
+mod eight_inch;
 mod forcing;
 mod formatting;
 mod leave;
@@ -20,13 +21,13 @@ mod status;
 mod stepping;
 mod turn;
 mod verifying;
-mod viewing;
+pub mod viewing;
 mod writing;
 
 use super::step::{Outcome, Step};
 
-/// All subjects, in the order of document 01; after them those of requests i, b and f.
-pub const SUBJECTS: [&Subject; 19] = [
+/// All subjects, in the order of document 01; after them those of requests i, b, f and h.
+pub const SUBJECTS: [&Subject; 20] = [
     &ring::SUBJECT,
     &power_on::SUBJECT,
     &refusing::SUBJECT,
@@ -46,6 +47,7 @@ pub const SUBJECTS: [&Subject; 19] = [
     &multiple_read::SUBJECT,
     &old_marks::SUBJECT,
     &viewing::SUBJECT,
+    &eight_inch::SUBJECT,
 ];
 
 pub struct Subject {

@@ -11,7 +11,9 @@ use crate::viewer::{View, Wanted};
 
 #[derive(Clone, Copy, Debug, PartialEq, Eq)]
 pub enum Call {
-    PowerOn,
+    PowerOn {
+        length: u16,
+    },
     Load {
         register: u8,
         byte: u8,
@@ -43,15 +45,31 @@ pub struct Outcome {
     pub cell: u16,
     /// Whether a run goes on though DRQ or INTRQ is on.
     pub goes_on: bool,
+    /// Whether a run stops though neither is on.
+    pub stops: bool,
+    /// Byte times of a run, up to here, that its count leaves out.
+    pub uncounted: u16,
     /// The side output that a line shows; of a 1793 it shows none.
     pub side_output: Option<u8>,
     /// What a line shows of the viewer: its number, how many cells it finds, and the cells.
     pub viewed: Vec<u16>,
 }
 
+/// A run before one of its byte times.
+#[derive(Clone, Copy, Debug, PartialEq, Eq)]
+pub struct RunSoFar {
+    pub limit: u16,
+    /// Where the head stood when it began.
+    pub from: u16,
+    /// Byte times that have passed.
+    pub passed: u16,
+}
+
 /// A call as the machine meets it.
 pub struct Step<'a> {
     pub call: Call,
+    /// The run that a byte time belongs to.
+    pub run: Option<RunSoFar>,
     pub before: &'a Machine,
     pub lines: Lines,
     /// The row that is lent.
@@ -72,6 +90,8 @@ impl Outcome {
             machine,
             cell: 0,
             goes_on: false,
+            stops: false,
+            uncounted: 0,
             side_output: None,
             viewed: Vec::new(),
         }
@@ -109,6 +129,11 @@ impl Outcome {
 impl Step<'_> {
     fn is_done(&self) -> bool {
         self.right.number == number::DONE
+    }
+
+    /// A power-on, done or refused.
+    pub fn powers_on(&self) -> bool {
+        matches!(self.call, Call::PowerOn { .. })
     }
 
     pub fn reads(&self, register: u8) -> bool {

@@ -42,9 +42,10 @@ pub enum End {
 }
 
 /// How many good records a chain has, and what comes after them.
-pub const CHAINS: [(usize, End); 18] = [
+pub const CHAINS: [(usize, End); 19] = [
     (0, End::Broken),
     (0, End::Broken),
+    (1, End::Broken),
     (1, End::Broken),
     (1, End::Broken),
     (1, End::Broken),

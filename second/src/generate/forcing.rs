@@ -142,7 +142,8 @@ impl Generator {
             }
             2 => self.byte_time(),
             3 => {
-                let limit = self.random.pick(&[0, 1, 100, 7000, 7000]);
+                let round = self.plan.length + 600;
+                let limit = self.random.pick(&[0, 1, 100, round, round]);
                 self.go(limit);
             }
             4 => self.read(0),

@@ -10,8 +10,10 @@ use crate::tracks::Plan;
 /// on that chip, no number of choices has this factor: so seeds in a row meet each choice on each
 /// chip.
 const CHIP_PERIOD: u64 = 5;
-/// Lengths that are refused, and the two ends of those that are not.
-const LENGTHS: [usize; 6] = [0, 0x7FF, 0x1901, 0xFFFF, 0x800, 0x1900];
+/// Lengths round the limits, also round the old one, 6,400.
+pub const LENGTHS: [usize; 9] = [0, 2047, 2048, 6400, 6401, 10_415, 10_416, 10_417, 0xFFFF];
+/// Rings of pictures, round the limits, and round what 13 bits hold.
+const LONG_RINGS: [usize; 9] = [5208, 6250, 6399, 6400, 6401, 8192, 8193, 10_415, 10_416];
 
 impl Generator {
     /// Mostly power-on; now and then the 1793 that is there already gets a track.
@@ -36,13 +38,15 @@ impl Generator {
         self.power_on_either();
     }
 
-    /// A new ring for the other chip.
-    pub fn change_chip(&mut self) {
-        self.show_row();
-        self.power_on(match self.chip() {
+    /// A new ring for the other chip. Before it this one has a scene on a long ring.
+    pub fn change_chip(&mut self, seed: u64) {
+        let other = match self.chip() {
             Chip::Wd1793 => Chip::Wd1797,
             Chip::Wd1797 => Chip::Wd1793,
-        });
+        };
+        self.show_row();
+        self.eight_inch_scene(seed);
+        self.power_on(other);
     }
 
     /// A new machine with a new track; at times others come first.
@@ -51,20 +55,25 @@ impl Generator {
         for _ in 0..self.random.pick(&[0, 0, 1, 2]) {
             self.power_on_in_passing();
         }
-        let length = match self.random.below(8) {
-            0 => self.random.pick(&[6250, 6399, 6400]),
-            1 => self.random.between(2048, 6400),
-            2 | 3 => self.random.between(2048, 2300),
-            _ => self.random.pick(&[2048, 2048, 2049, 3125]),
-        };
+        let length = self.random_length();
         self.plan = self.random_plan(chip, length);
         self.say_power_on(self.plan.density, length, chip);
         self.look_at_fresh();
         self.lay_random_track();
     }
 
+    /// Mostly a short ring, since a long one takes more lines and more byte times.
+    fn random_length(&mut self) -> usize {
+        match self.random.below(16) {
+            0 => self.random.pick(&LONG_RINGS),
+            1 => self.random.between(2048, 10_416),
+            2..=5 => self.random.between(2048, 2300),
+            _ => self.random.pick(&[2048, 2048, 2049, 3125]),
+        }
+    }
+
     /// What the track is like. On a 1793 a scene can rely on side 0 and document 01's length codes.
-    fn random_plan(&mut self, chip: Chip, length: usize) -> Plan {
+    pub fn random_plan(&mut self, chip: Chip, length: usize) -> Plan {
         let (side, length_codes) = match chip {
             Chip::Wd1793 => (0, LengthCodes::Ibm),
             Chip::Wd1797 => (
@@ -95,7 +104,7 @@ impl Generator {
     }
 
     /// The 1793 may be left unnamed.
-    fn say_power_on(&mut self, density: Density, length: usize, chip: Chip) {
+    pub fn say_power_on(&mut self, density: Density, length: usize, chip: Chip) {
         let density = u8::from(density == Density::Mfm);
         let chip = match chip {
             Chip::Wd1793 => self.random.pick(&["", " 0"]),

@@ -1,10 +1,11 @@
 // Calls that are refused, each followed by lines that put things right again.
 
+use super::power_on::LENGTHS;
 use super::{Generator, NO_LIMIT};
 use crate::chip::Chip;
 use crate::command::Command;
 use crate::field::LARGEST_CELL;
-use crate::machine::LONGEST_TRACK;
+use crate::machine::{self, LONGEST_TRACK};
 
 /// The bytes that are no commands of the chip.
 pub fn no_commands(chip: Chip) -> Vec<u8> {
@@ -49,7 +50,9 @@ impl Generator {
             0 => self.say(format!("X {:X}", length)),
             1 => self.say("X FFFF".to_string()),
             _ => {
-                let out = self.random.pick(&[0, 0x7FF, 0x1901, 0xFFFF]);
+                let mut out = LENGTHS.to_vec();
+                out.retain(|&length| !machine::length_in_range(length));
+                let out = self.random.pick(&out);
                 self.say(format!("Y {:X}", out));
             }
         }
@@ -78,7 +81,8 @@ impl Generator {
     fn refuse_row(&mut self) {
         let length = self.plan.length;
         if !self.is_busy() && self.random.one_in(3) {
-            let other = self.random.between(2048, 6400);
+            let any = self.random.between(2048, 10_416);
+            let other = self.random.pick(&[any, 2048, 6400, 10_416]);
             if other != length {
                 self.lend_wrongly(&format!("Y {:X}", other), &format!("Y {:X}", length));
             }
@@ -86,7 +90,7 @@ impl Generator {
         }
         let wrong = self
             .random
-            .pick(&[0, 1, length - 1, length + 1, 2048, 6400]);
+            .pick(&[0, 1, length - 1, length + 1, 2048, 6400, 10_416]);
         if wrong != length && wrong <= usize::from(LONGEST_TRACK) {
             self.change_rows();
             self.lend_wrongly(&format!("K {:X}", wrong), &format!("K {:X}", length));

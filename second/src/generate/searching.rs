@@ -18,7 +18,7 @@ impl Generator {
         self.change_rows();
     }
 
-    fn begin_in_vain(&mut self) {
+    pub fn begin_in_vain(&mut self) {
         self.ask_for(1);
         self.load(3, self.plan.track);
         self.set_wires(READY | HEAD_LOADED);

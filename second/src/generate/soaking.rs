@@ -3,8 +3,9 @@
 use super::chaining::CHAINS;
 use super::commands::sector_commands;
 use super::timing::{BEGINNINGS, RECORDS};
-use super::turns::{in_turn, SHORT_SCENES};
+use super::turns::SHORT_SCENES;
 use super::{accepting, forcing, Generator, HEAD_LOADED, READY};
+use crate::random::in_turn;
 
 /// The longest run of a host that looks at DRQ often.
 const SHORT_RUN: usize = 4;
@@ -14,13 +15,15 @@ const TYPE_ONE_TURNS: u64 = 6;
 
 impl Generator {
     /// What some scripts in a row must meet completely: each sector command on each chip, and each
-    /// Type I command, half of a script's on each chip. Of the others there are fewer, and chance
-    /// gives them all.
+    /// Type I command, half of a script's on each chip, and between them a scene of long rings; and
+    /// Restore to its end, which takes so long that chance hardly gives it. Of the others there are
+    /// fewer, and chance gives them all.
     pub fn take_soaking_turns(&mut self, seed: u64) {
+        self.restore_scene();
         self.command_stretch(in_turn(&sector_commands(), seed));
         for turn in 0..TYPE_ONE_TURNS {
             if turn == TYPE_ONE_TURNS / 2 {
-                self.change_chip();
+                self.change_chip(seed);
                 self.command_stretch(in_turn(&sector_commands(), seed));
             }
             let number = seed.wrapping_mul(TYPE_ONE_TURNS).wrapping_add(turn);
@@ -65,6 +68,7 @@ impl Generator {
             }
             41..=43 => self.side_scene(),
             44..=49 => self.data_mark_scene(),
+            50 => self.any_eight_inch_scene(),
             _ => self.stretching_scene(),
         }
     }

@@ -65,7 +65,7 @@ impl Generator {
     }
 
     /// As long as a run can be: of an idle machine that waits for a Ready edge at most.
-    fn longest_run(&mut self) {
+    pub fn longest_run(&mut self) {
         let byte = self.random.between(0xD0, 0xD3) as u8;
         self.load(0, byte);
         self.read(3);

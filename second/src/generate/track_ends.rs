@@ -31,7 +31,7 @@ impl Generator {
         self.end_command();
     }
 
-    fn serve_read(&mut self) {
+    pub fn serve_read(&mut self) {
         if !self.random.one_in(4) {
             self.read(3);
         }
@@ -75,7 +75,7 @@ impl Generator {
     }
 
     /// A byte, if it is asked for, and a byte time.
-    fn write_byte(&mut self, byte: u8) {
+    pub fn write_byte(&mut self, byte: u8) {
         if self.bench.machine.data_request && !self.random.one_in(30) {
             self.load(3, byte);
         }

@@ -1,6 +1,7 @@
 // What every script begins with, so that some hundred seeds in a row meet all of it.
 
 use super::{accepting, chaining, commands, data_marks, forcing, refusing, timing, Generator};
+use crate::random::in_turn;
 
 /// Scenes of some lines each.
 pub const SHORT_SCENES: [fn(&mut Generator); 22] = [
@@ -35,8 +36,9 @@ const VIEW_ONE_IN: u64 = 4;
 impl Generator {
     /// Each byte that is no command and each data mark with each CRC, on both chips. On one of them
     /// each Type I command and each sector command; each length read and written; each command that
-    /// settles; each Force Interrupt in each activity. On the other each chain of records; each
-    /// command with DRQ, INTRQ and each condition off and on; and every short scene.
+    /// settles; each Force Interrupt in each activity; each scene of long rings. On the other each
+    /// chain of records; each command with DRQ, INTRQ and each condition off and on; and every short
+    /// scene.
     pub fn take_turns(&mut self, seed: u64) {
         self.load_no_command(seed);
         self.marked_record_scene(in_turn(&data_marks::marked_records(), seed));
@@ -47,7 +49,7 @@ impl Generator {
         self.beginning_scene(in_turn(&timing::BEGINNINGS, seed));
         self.beginning_scene(in_turn(&timing::SETTLINGS, seed));
         self.forcing_scene(in_turn(&forcing::pairs(), seed));
-        self.change_chip();
+        self.change_chip(seed);
         self.load_no_command(seed);
         self.marked_record_scene(in_turn(&data_marks::marked_records(), seed));
         self.chain_scene(in_turn(&chaining::CHAINS, seed));
@@ -66,9 +68,4 @@ impl Generator {
     fn load_no_command(&mut self, seed: u64) {
         self.load(0, in_turn(&refusing::no_commands(self.chip()), seed));
     }
-}
-
-/// The seed's choice: seeds in a row go through all of them.
-pub fn in_turn<T: Copy>(choices: &[T], seed: u64) -> T {
-    choices[(seed % choices.len() as u64) as usize]
 }

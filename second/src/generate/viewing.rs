@@ -60,7 +60,7 @@ impl Generator {
     fn view_with_other_length(&mut self) {
         self.change_rows();
         let out = self.random.pick(&[0, 0x7FF]);
-        for other in [out, self.random.pick(&[0x800, 0x1900])] {
+        for other in [out, self.random.pick(&[0x800, 0x1900, 0x28B0])] {
             self.say(format!("K {:X}", other));
             self.view_some_sector();
             self.change_rows();

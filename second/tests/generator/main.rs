@@ -2,6 +2,7 @@
 
 mod chips;
 mod data_marks;
+mod eight_inch;
 mod met;
 mod multiple;
 mod runs;
@@ -12,6 +13,7 @@ use std::collections::BTreeMap;
 use met::Met;
 use second::bench::{self, Bench};
 use second::generate;
+use second::script::{self, Parsed};
 
 const SEEDS: u64 = 300;
 /// So many of them are many.
@@ -186,6 +188,36 @@ fn some_scripts_meet_every_data_mark() {
         met_by_fewer(data_marks::wanted(), SOME),
         Vec::<String>::new()
     );
+}
+
+/// Long rings make a script long, so some scripts are enough.
+#[test]
+fn some_scripts_meet_every_limit_of_long_rings() {
+    let mut counts: BTreeMap<String, usize> = BTreeMap::new();
+    for key in (0..SEEDS).flat_map(|seed| eight_inch::met(&generate::script(seed))) {
+        *counts.entry(key).or_insert(0) += 1;
+    }
+    let mut keys = eight_inch::wanted();
+    keys.retain(|key| counts.get(key).map_or(0, |&count| count) < SOME);
+    assert_eq!(keys, Vec::<String>::new());
+    assert_eq!(met_by_fewer(eight_inch::ends(), SOME), Vec::<String>::new());
+}
+
+/// A long ring takes more lines and more byte times, so most lines work a short one.
+#[test]
+fn most_lines_work_a_short_ring() {
+    let (mut short, mut all) = (0, 0);
+    for seed in 0..60 {
+        let mut bench = Bench::new();
+        for text in generate::script(seed).lines() {
+            if let Parsed::Line(line) = script::parse(text.as_bytes()) {
+                bench.carry_out(&line);
+                short += usize::from(bench.machine.length < 2300);
+                all += 1;
+            }
+        }
+    }
+    assert!(2 * short > all, "{} of {}", short, all);
 }
 
 #[test]

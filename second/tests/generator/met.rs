@@ -10,7 +10,7 @@ use second::command::Command;
 use second::density::Density;
 use second::field::{self, Id};
 use second::lines::Lines;
-use second::machine::{Machine, SHORTEST_TRACK};
+use second::machine::{Machine, LONGEST_TRACK, SHORTEST_TRACK};
 use second::number;
 use second::script::{self, Line, Parsed};
 use second::status::StatusType;
@@ -290,6 +290,9 @@ impl Met {
         }
         if before.name != "Idle" && machine.position == 0 {
             self.note(format!("ring's end in {}", before.name));
+            if machine.length == LONGEST_TRACK {
+                self.note(format!("longest ring's end in {}", before.name));
+            }
         }
         if machine.status.lost_data && !before.lost_data {
             self.note(format!("Lost Data in {}", before.name));

@@ -15,22 +15,38 @@ use crate::desk::{Desk, Fm, Mfm, NO_LIMIT};
 
 const BAD_CELL: u16 = 512;
 
-/// Out of range in each way that a position and a length can be.
-fn machines_out_of_range() -> Vec<Desk> {
-    [(2048, 2048), (65_535, 2048), (0, 2047), (0, 6401), (0, 0)]
-        .iter()
-        .map(|&(position, length)| {
-            let mut desk = Desk::new(Fm);
-            desk.machine.position = position;
-            desk.machine.length = length;
-            desk
-        })
-        .collect()
+/// Positions and lengths out of range, in each way that they can be.
+const OUT_OF_RANGE: [(u16, u16); 8] = [
+    (2048, 2048),
+    (65_535, 2048),
+    (10_416, 10_416),
+    (65_535, 10_416),
+    (0, 0),
+    (0, 2047),
+    (0, 10_417),
+    (0, 65_535),
+];
+/// And such as are just in range.
+const IN_RANGE: [(u16, u16); 5] = [
+    (2047, 2048),
+    (6399, 6400),
+    (6400, 6401),
+    (0, 10_416),
+    (10_415, 10_416),
+];
+
+/// A machine whose position and length were set.
+fn desk_set_to(position: u16, length: u16) -> Desk {
+    let mut desk = Desk::new(Fm);
+    desk.machine.position = position;
+    desk.machine.length = length;
+    desk
 }
 
 #[test]
 fn every_call_gives_2_first() {
-    for mut desk in machines_out_of_range() {
+    for (position, length) in OUT_OF_RANGE {
+        let mut desk = desk_set_to(position, length);
         let before = desk.machine.clone();
         assert_eq!(desk.try_load(9, 0x9F), number::MACHINE);
         let read = desk.machine.clone().read_register(9, desk.lines);
@@ -40,6 +56,20 @@ fn every_call_gives_2_first() {
         assert_eq!(desk.run(0).number, number::MACHINE);
         assert_eq!(desk.machine, before);
         assert_eq!(desk.track, vec![BAD_CELL; 7]);
+    }
+}
+
+#[test]
+fn a_position_below_a_length_in_range_is_not_2() {
+    for (position, length) in IN_RANGE {
+        let mut desk = desk_set_to(position, length);
+        assert_eq!(desk.read(1), 0);
+        assert_eq!(desk.try_byte_time() == number::TRACK, length != 2048);
+        desk.track = vec![0xFF; usize::from(length)];
+        desk.machine.position = position;
+        desk.byte_time();
+        assert_eq!(desk.machine.position, (position + 1) % length);
+        desk.load(0, 0xD0);
     }
 }
 

@@ -13,7 +13,7 @@ use crate::desk::{Desk, Fm, Mfm, BOTH};
 #[test]
 fn a_length_out_of_range_leaves_the_fm_machine_of_2048() {
     let fallback = Machine::power_on(Chip::Wd1793, 2048, Fm).machine;
-    for length in [0, 2047, 6401, 65_535] {
+    for length in [0, 2047, 10_417, 65_535] {
         let answer = Machine::power_on(Chip::Wd1793, length, Mfm);
         assert_eq!(answer.number, number::LENGTH);
         assert_eq!(answer.machine, fallback);
@@ -21,8 +21,8 @@ fn a_length_out_of_range_leaves_the_fm_machine_of_2048() {
 }
 
 #[test]
-fn lengths_2048_and_6400_are_taken() {
-    for length in [2048, 6400] {
+fn lengths_2048_and_10416_are_taken_and_those_round_the_old_limit_too() {
+    for length in [2048, 6400, 6401, 10_416] {
         let answer = Machine::power_on(Chip::Wd1793, length, Mfm);
         assert_eq!(answer.number, number::DONE);
         assert_eq!(answer.machine.length, length);

@@ -92,9 +92,11 @@ fn each_chip_takes_its_own_bytes_and_no_others() {
 fn power_on_names_the_chip_and_turns_its_side_output_to_0() {
     for chip in Chip::BOTH {
         for density in BOTH {
-            let answer = Machine::power_on(chip, 6250, density);
-            assert_eq!(answer.number, number::DONE);
-            assert_eq!((answer.machine.chip, answer.machine.side_output), (chip, 0));
+            for length in [6250, 10_416] {
+                let answer = Machine::power_on(chip, length, density);
+                assert_eq!(answer.number, number::DONE);
+                assert_eq!((answer.machine.chip, answer.machine.side_output), (chip, 0));
+            }
         }
     }
 }
@@ -103,7 +105,7 @@ fn power_on_names_the_chip_and_turns_its_side_output_to_0() {
 fn a_refused_power_on_gives_the_fm_machine_of_2048_of_the_chip_named() {
     for chip in Chip::BOTH {
         let fallback = Machine::power_on(chip, 2048, Fm).machine;
-        for length in [0, 2047, 6401] {
+        for length in [0, 2047, 10_417] {
             let answer = Machine::power_on(chip, length, Mfm);
             assert_eq!(answer.number, number::LENGTH);
             assert_eq!(answer.machine, fallback);

@@ -6,6 +6,7 @@ mod cases;
 mod chips;
 mod data_marks;
 mod desk;
+mod eight_inch;
 mod multiple;
 mod reading;
 mod searching;

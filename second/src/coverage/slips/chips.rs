@@ -10,7 +10,7 @@ use crate::number::{DONE, NO_COMMAND};
 const SIDE_SELECT: u8 = 2;
 
 pub const SUBJECT: Subject = Subject {
-    concerns: |step| matches!(step.call, Call::PowerOn | Call::Load { .. } | Call::Look),
+    concerns: |step| step.powers_on() || matches!(step.call, Call::Load { .. } | Call::Look),
     sentences: SENTENCES,
 };
 
@@ -51,11 +51,11 @@ const SENTENCES: &[Sentence] = &[
 ];
 
 fn powers_on(step: &Step) -> bool {
-    step.call == Call::PowerOn && step.right.number == DONE
+    step.powers_on() && step.right.number == DONE
 }
 
 fn is_refused(step: &Step) -> bool {
-    step.call == Call::PowerOn && step.right.number != DONE
+    step.powers_on() && step.right.number != DONE
 }
 
 fn be_1793(_: &Step, wrong: &mut Outcome) {

@@ -1,13 +1,13 @@
 // Slips of power-on: mostly something stays as it was.
 
 use super::{leave, slip, Sentence, Subject};
-use crate::coverage::step::{Call, Outcome, Step};
+use crate::coverage::step::{Outcome, Step};
 use crate::density::Density;
 use crate::machine::Direction;
 use crate::number;
 
 pub const SUBJECT: Subject = Subject {
-    concerns: |step| step.call == Call::PowerOn,
+    concerns: |step| step.powers_on(),
     sentences: SENTENCES,
 };
 
@@ -47,7 +47,7 @@ const SENTENCES: &[Sentence] = &[
         ],
     },
     Sentence {
-        says: "1 | a length outside 2,048..6,400 at power-on .. | power-on FM machine of 2,048",
+        says: "1 | a length .. at power-on .. | power-on FM machine of 2,048",
         slips: &[slip(
             "the machine stays",
             |step| !is_done(step),

@@ -98,7 +98,7 @@ fn is(step: &Step, number: u8) -> bool {
 }
 
 /// Says that the call is done, and does nothing.
-fn be_done(_: &Step, wrong: &mut Outcome) {
+pub fn be_done(_: &Step, wrong: &mut Outcome) {
     wrong.number = DONE;
 }
 

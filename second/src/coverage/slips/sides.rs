@@ -149,7 +149,7 @@ fn clear(_: &Step, wrong: &mut Outcome) {
 }
 
 fn powers_on(step: &Step) -> bool {
-    step.call == Call::PowerOn
+    step.powers_on()
 }
 
 /// Read Address has met the mark of its ID.

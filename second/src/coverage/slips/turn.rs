@@ -67,6 +67,10 @@ pub fn index_on(_: &Step, wrong: &mut Outcome) {
     wrong.machine.index_seen = true;
 }
 
+pub fn index_off(_: &Step, wrong: &mut Outcome) {
+    wrong.machine.index_seen = false;
+}
+
 pub fn conditions_off(_: &Step, wrong: &mut Outcome) {
     wrong.machine.conditions = Conditions::default();
 }

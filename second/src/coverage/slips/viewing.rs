@@ -9,7 +9,7 @@ use crate::field;
 use crate::viewer::{self, FindMark};
 
 /// Where the data mark ends after the ID, and which one it is.
-type Found = Option<(usize, DataMark)>;
+pub type Found = Option<(usize, DataMark)>;
 
 pub const SUBJECT: Subject = Subject {
     concerns: views,
@@ -81,19 +81,19 @@ fn first_right(density: Density, cells: &[u16], such: fn(DataMark) -> bool) -> F
     first(density, cells, |mark| marks.contains(&mark) && such(mark))
 }
 
-fn without_f9(density: Density, cells: &[u16]) -> Found {
+pub fn without_f9(density: Density, cells: &[u16]) -> Found {
     first_right(density, cells, |mark| mark != F9)
 }
 
-fn without_fa(density: Density, cells: &[u16]) -> Found {
+pub fn without_fa(density: Density, cells: &[u16]) -> Found {
     first_right(density, cells, |mark| mark != FA)
 }
 
-fn with_f9(density: Density, cells: &[u16]) -> Found {
+pub fn with_f9(density: Density, cells: &[u16]) -> Found {
     first(density, cells, |mark| density == Fm || mark != FA)
 }
 
-fn with_fa(density: Density, cells: &[u16]) -> Found {
+pub fn with_fa(density: Density, cells: &[u16]) -> Found {
     first(density, cells, |mark| density == Fm || mark != F9)
 }
 
@@ -104,11 +104,11 @@ fn reported_as(density: Density, cells: &[u16], marks: [DataMark; 2]) -> Found {
     found.map(|(place, mark)| (place, if mark == met { reported } else { mark }))
 }
 
-fn f8_for_f9(density: Density, cells: &[u16]) -> Found {
+pub fn f8_for_f9(density: Density, cells: &[u16]) -> Found {
     reported_as(density, cells, [F9, F8])
 }
 
-fn fb_for_fa(density: Density, cells: &[u16]) -> Found {
+pub fn fb_for_fa(density: Density, cells: &[u16]) -> Found {
     reported_as(density, cells, [FA, FB])
 }
 
