@@ -25,9 +25,8 @@ pub enum Activity {
     AwaitingDataMark(Window),
     ReadingRecord(RecordRead),
     WritingRecord(RecordWrite),
-    /// Read Track or Write Track before its first index pulse.
-    AwaitingIndex(Command),
-    ReadingTrack,
+    /// Write Track before its first index pulse.
+    AwaitingIndex,
     WritingTrack(TrackWrite),
 }
 
@@ -137,8 +136,7 @@ impl Activity {
             Activity::AwaitingDataMark(_) => "AwaitingDataMark",
             Activity::ReadingRecord(_) => "ReadingRecord",
             Activity::WritingRecord(_) => "WritingRecord",
-            Activity::AwaitingIndex(_) => "AwaitingIndex",
-            Activity::ReadingTrack => "ReadingTrack",
+            Activity::AwaitingIndex => "AwaitingIndex",
             Activity::WritingTrack(_) => "WritingTrack",
         }
     }

@@ -6,6 +6,9 @@ use crate::data_mark::DataMark;
 use crate::density::Density;
 use crate::field::LengthCodes;
 
+/// "On both chips E0, E2, E4, E6 are no longer commands."
+pub const RETIRED: [u8; 4] = [0xE0, 0xE2, 0xE4, 0xE6];
+
 #[derive(Clone, Copy, Debug, PartialEq, Eq)]
 pub enum Name {
     Restore,
@@ -16,7 +19,6 @@ pub enum Name {
     ReadSector,
     WriteSector,
     ReadAddress,
-    ReadTrack,
     WriteTrack,
     ForceInterrupt,
 }
@@ -35,7 +37,7 @@ pub struct Command {
 }
 
 impl Command {
-    /// The command of a byte, if the chip has it: the 1793 refuses 58 bytes, the 1797 52.
+    /// The command of a byte, if the chip has it: the 1793 refuses 60 bytes, the 1797 56.
     pub fn decode(byte: u8, chip: Chip) -> Option<Command> {
         let command = Command {
             name: name_of(byte, chip)?,
@@ -180,8 +182,9 @@ fn name_of(byte: u8, chip: Chip) -> Option<Name> {
         0x60..=0x7F => Some(Name::StepOut),
         0x80..=0x9F if byte % 2 == 0 => Some(Name::ReadSector),
         0xA0..=0xBF => Some(Name::WriteSector),
+        0xC0..=0xCF if has_type_three_bits(byte, chip) => Some(Name::ReadAddress),
         0xD0..=0xDF => Some(Name::ForceInterrupt),
-        0xC0..=0xFF if has_type_three_bits(byte, chip) => Some(type_three_name(byte)),
+        0xF0..=0xFF if has_type_three_bits(byte, chip) => Some(Name::WriteTrack),
         _ => None,
     }
 }
@@ -194,12 +197,4 @@ fn has_type_three_bits(byte: u8, chip: Chip) -> bool {
         Chip::Wd1797 => 0b0110,
     };
     byte & 0x0F & !flags == 0
-}
-
-fn type_three_name(byte: u8) -> Name {
-    match byte >> 4 {
-        0xC => Name::ReadAddress,
-        0xE => Name::ReadTrack,
-        _ => Name::WriteTrack,
-    }
 }

@@ -173,7 +173,7 @@ impl Generator {
     }
 
     fn scene(&mut self) {
-        match self.random.below(31) {
+        match self.random.below(30) {
             0..=3 => {
                 let byte = self.random.below(0x80) as u8;
                 self.stepping_scene(byte);
@@ -183,25 +183,24 @@ impl Generator {
                 self.sector_scene(byte);
             }
             10..=11 => self.address_scene(),
-            12 => self.read_track_scene(),
-            13 => self.write_track_scene(),
-            14..=19 => {
+            12 => self.write_track_scene(),
+            13..=18 => {
                 let pair = self.random.pick(&forcing::pairs());
                 self.forcing_scene(pair);
             }
-            20 => self.waiting_scene(),
-            21..=22 => self.refusing_scene(),
-            23 => self.viewing_scene(),
-            24..=26 => {
+            19 => self.waiting_scene(),
+            20..=21 => self.refusing_scene(),
+            22 => self.viewing_scene(),
+            23..=25 => {
                 let byte = self.random.pick(&timing::BEGINNINGS);
                 self.beginning_scene(byte);
             }
-            27 => {
+            26 => {
                 let chain = self.random.pick(&chaining::CHAINS);
                 self.chain_scene(chain);
             }
-            28 => self.late_write_scene(),
-            29 => self.data_mark_scene(),
+            27 => self.late_write_scene(),
+            28 => self.data_mark_scene(),
             _ if self.random.one_in(4) => self.power_on_either(),
             _ => self.comment(),
         }

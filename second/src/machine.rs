@@ -346,8 +346,7 @@ impl Machine {
             Activity::AwaitingDataMark(window) => self.go_on_awaiting_mark(window, now),
             Activity::ReadingRecord(read) => self.go_on_reading_record(read, now),
             Activity::WritingRecord(write) => self.go_on_writing_record(write, now),
-            Activity::AwaitingIndex(command) => self.go_on_awaiting_index(command, now),
-            Activity::ReadingTrack => self.go_on_reading_track(now),
+            Activity::AwaitingIndex => self.go_on_awaiting_index(now),
             Activity::WritingTrack(write) => self.go_on_writing_track(write, now),
         }
     }

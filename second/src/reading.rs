@@ -1,4 +1,4 @@
-// The commands that hand bytes to the host: Read Sector, Read Address and Read Track.
+// The commands that hand bytes to the host: Read Sector and Read Address.
 
 use crate::activity::{Activity, AddressField, RecordRead, Window};
 use crate::crc;
@@ -87,18 +87,5 @@ impl Machine {
     /// How many of a field's bytes stand after its mark.
     fn cells_after_mark(&self, field: &[u8]) -> usize {
         field.len() - field::mark_length(self.density)
-    }
-
-    /// "Cells 0 to L - 1 from the first index pulse, as data bytes go; the last ends it."
-    pub(crate) fn go_on_reading_track(&mut self, now: &mut ByteTime) -> Activity {
-        self.hand_over(field::byte_of(*now.cell));
-        if self.at_last_cell() {
-            return self.end();
-        }
-        Activity::ReadingTrack
-    }
-
-    pub(crate) fn at_last_cell(&self) -> bool {
-        self.position + 1 == self.length
     }
 }

@@ -45,7 +45,7 @@ impl Machine {
             return Activity::Settling(settling);
         }
         match settling.command.name {
-            Name::ReadTrack | Name::WriteTrack => self.go_on_awaiting_index(settling.command, now),
+            Name::WriteTrack => self.go_on_awaiting_index(now),
             _ => self.go_on_searching(Search::new(settling.command), now),
         }
     }

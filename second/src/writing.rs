@@ -1,7 +1,6 @@
-// The commands that write cells: Write Sector and Write Track, and the wait for the index.
+// The commands that write cells: Write Sector and Write Track.
 
 use crate::activity::{Activity, RecordWrite, TrackWrite};
-use crate::command::{Command, Name};
 use crate::crc;
 use crate::density::Density;
 use crate::field::{self, FLAG};
@@ -118,18 +117,10 @@ impl Machine {
         self.data_request = !write.data_is_complete(self.density);
     }
 
-    /// Read Track and Write Track begin with the first index pulse. Write Track: "still on at
-    /// the first pulse: Lost Data, end".
-    pub(crate) fn go_on_awaiting_index(
-        &mut self,
-        command: Command,
-        now: &mut ByteTime,
-    ) -> Activity {
+    /// DRQ "still on at the first pulse: Lost Data, end".
+    pub(crate) fn go_on_awaiting_index(&mut self, now: &mut ByteTime) -> Activity {
         if !now.index {
-            return Activity::AwaitingIndex(command);
-        }
-        if command.name == Name::ReadTrack {
-            return self.go_on_reading_track(now);
+            return Activity::AwaitingIndex;
         }
         if self.data_request {
             self.status.lost_data = true;
@@ -149,7 +140,7 @@ impl Machine {
         now: &mut ByteTime,
     ) -> Activity {
         let next = self.write_track_cell(write, now);
-        if self.at_last_cell() {
+        if self.position + 1 == self.length {
             self.data_request = false;
             return self.end();
         }

@@ -212,7 +212,7 @@ fn power_on_names_the_chip_or_leaves_the_1793_unnamed() {
 
 #[test]
 fn every_state_of_a_1797_ends_with_the_side_output() {
-    let script = "P 0 800 1\nN 9\nW 0 E2\nR 1\nW 0 D0\nB\nG 2\nX 5\nY 900\nY 800\nV 0 1\nW 0 C0\n";
+    let script = "P 0 800 1\nN 9\nW 0 C2\nR 1\nW 0 D0\nB\nG 2\nX 5\nY 900\nY 800\nV 0 1\nW 0 C0\n";
     let expected = "P 00 | 80 00 01 00 0 0 0000 0\n\
                     N | 00 00 01 00 0 0 0000 0\n\
                     W 00 | 01 00 01 00 0 0 0000 1\n\

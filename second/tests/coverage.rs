@@ -446,6 +446,46 @@ fn a_long_run_is_shown_where_it_counts_too_little() {
 }
 
 #[test]
+fn a_retired_byte_that_is_taken_is_shown_on_its_chip() {
+    let says = "On both chips E0, E2, E4, E6 are no longer commands.";
+    let on_1793 = |lines: &[&str], does| scene_shows(SCENE, lines, says, does);
+    let on_1797 = |lines: &[&str], does| scene_shows(TWO_SIDED_SCENE, lines, says, does);
+    assert!(on_1793(&["W 0 E2"], "E2 on the 1793"));
+    assert!(!on_1793(&["W 0 E6"], "E2 on the 1793"));
+    assert!(!on_1797(&["W 0 E2"], "E2 on the 1793"));
+    assert!(on_1797(&["W 0 E2"], "E2 on the 1797"));
+    assert!(!on_1793(&["W 0 E2"], "E2 on the 1797"));
+    assert!(!on_1797(&["W 0 80", "W 0 E2"], "E2 on the 1797"));
+    assert!(on_1793(&["W 0 F4"], "nor is Write Track"));
+    assert!(!on_1793(&["W 0 F2"], "nor is Write Track"));
+    let refuses = |lines: &[&str], does| shows(lines, "For the 1793 the bytes refused", does);
+    assert!(refuses(&["W 0 E4"], "59, not E4"));
+    assert!(!refuses(&["W 0 E0"], "59, not E4"));
+    assert!(!refuses(&["W 0 E5"], "59, not E4"));
+}
+
+#[test]
+fn what_a_retired_byte_changes_is_shown_where_it_was_something_else() {
+    let changes = |lines: &[&str], does| shows(lines, "Refusals: 7 grows by these.", does);
+    assert!(changes(&["W 0 D8", "W 0 E0"], "INTRQ goes off"));
+    assert!(!changes(&["W 0 D0", "W 0 E0"], "INTRQ goes off"));
+    assert!(!changes(&["W 0 D8", "W 0 E1"], "INTRQ goes off"));
+    assert!(changes(&["W 0 F0", "W 0 D0", "W 0 E6"], "DRQ goes off"));
+    assert!(!changes(&["W 0 C0", "W 0 D0", "W 0 E6"], "DRQ goes off"));
+    assert!(changes(
+        &["W 0 D4", "W 0 E2", "B"],
+        "conditions are dropped"
+    ));
+    assert!(!changes(
+        &["W 0 D2", "W 0 E2", "B"],
+        "conditions are dropped"
+    ));
+    assert!(changes(&["W 0 80", "W 0 E0"], "7 while Busy too"));
+    assert!(!changes(&["W 0 E0"], "7 while Busy too"));
+    assert!(!changes(&["W 0 80", "W 0 EF"], "7 while Busy too"));
+}
+
+#[test]
 fn nothing_is_shown_by_lines_after_an_error() {
     let loads = |lines: &[&str]| shows(lines, "Writes 0 to 3", "1 loads nothing");
     assert!(loads(&["W 1 7"]));

@@ -5,7 +5,7 @@ use Rattle.command.specs.Bits.{loadsHead, settlesFirst, selectsSide, forcesAtOn
 use Rattle.command.specs.Commands.{isRestore}
 use Rattle.command.specs.Times.{settleTimeOf}
 use Rattle.command.specs.declared.Command.{Command}
-use Rattle.command.specs.declared.Command.the-variants.{Restore, Seek, Step, StepIn, StepOut, ReadSector, WriteSector, ReadAddress, ReadTrack, WriteTrack, ForceInterrupt}
+use Rattle.command.specs.declared.Command.the-variants.{Restore, Seek, Step, StepIn, StepOut, ReadSector, WriteSector, ReadAddress, WriteTrack, ForceInterrupt}
 use Rattle.command.specs.declared.Chip.{Chip}
 use Rattle.command.specs.declared.Class.{Class}
 use Rattle.command.specs.declared.Class.the-variants.{Seeks, Steps, Works, Forces}
@@ -27,7 +27,6 @@ writes StepOut = false
 writes ReadSector = false
 writes WriteSector = true
 writes ReadAddress = false
-writes ReadTrack = false
 writes WriteTrack = true
 writes ForceInterrupt = false
 
@@ -49,7 +48,6 @@ asksFirst StepOut = false
 asksFirst ReadSector = false
 asksFirst WriteSector = false
 asksFirst ReadAddress = false
-asksFirst ReadTrack = false
 asksFirst WriteTrack = true
 asksFirst ForceInterrupt = false
 

@@ -6,7 +6,7 @@ use native.Mathlib.Omega.{arith}
 use lib.Dec.{ltb, leb, eqb}
 use borrow.Author.Tests.{ltb-true, leb-true, leb-false, eqb-true, eqb-false, eq-eqb}
 use Rattle.common.proofs.Cases.{by-cond, never}
-use Rattle.crc.specs.Crc.{crcByte}
+use Rattle.crc.specs.Crc.{preset, crcByte}
 use Rattle.scan.specs.Marks.{byteOf, markCrc, markStep}
 use Rattle.scan.specs.DataMarks.{windowOf, markByte, dataMarkStep}
 use Rattle.scan.specs.Ids.{idStep}
@@ -24,15 +24,15 @@ use Rattle.activity.specs.Acts.{pass, write, takenOf}
 use Rattle.activity.specs.declared.Seen.{Seen}
 use Rattle.activity.specs.declared.Act.{Act}
 use Rattle.activity.specs.declared.Activity.{Activity}
-use Rattle.activity.specs.declared.Activity.the-variants.{Idle, Seek, Pulse, Stop, Settle, Search, Window, Data, Hunt, Address, Await, TrackRead, Preamble, Put, Format, FormatCrc}
+use Rattle.activity.specs.declared.Activity.the-variants.{Idle, Seek, Pulse, Stop, Settle, Search, Window, Data, Hunt, Address, Await, Preamble, Put, Format, FormatCrc}
 use Rattle.activity.specs.declared.Deed.{Deed}
 use Rattle.activity.specs.declared.Deed.the-variants.{Nothing, Deliver, Named, Matched, NotFound, Record, Written, Ask, Late, Take, Step, Halt}
 use Rattle.stepping.specs.Stepping.{stopAct, trackAfter, stepAct, seekDecision, seekTurn, pulseTurn, stopTurn}
 use Rattle.search.specs.Search.{pulsesSeen, matchesFor, afterMatch, afresh, afterRecord, idFound, searchStep, searchCell}
-use Rattle.reading.specs.Reading.{windowMissed, windowStep, windowCell, recordFollows, recordEnd, dataCell, addressBegun, huntStep, huntCell, addressTrack, addressCell, trackCell}
+use Rattle.reading.specs.Reading.{windowMissed, windowStep, windowCell, recordFollows, recordEnd, dataCell, addressBegun, huntStep, huntCell, addressTrack, addressCell}
 use Rattle.writing.specs.Writing.{markPlace, preambleCell, preambleNext, preambleDeed, preambleTurn, putCell}
 use Rattle.formatting.specs.Formatting.{untilLast, laidCell, laidCrc, formatCell, formatCrcCell}
-use Rattle.act.specs.Turns.{jobBegun, begunActivity, settleTurn, awaitTurn, activityAct, actOf}
+use Rattle.act.specs.Turns.{formatBegun, jobBegun, begunActivity, settleTurn, awaitTurn, activityAct, actOf}
 
 -- the activity writes cells: Write Sector after its ID, and Write Track
 unfoldable pub writesIn : Activity → Bool
@@ -47,7 +47,6 @@ writesIn (Data left crc deleted) = false
 writesIn (Hunt pulses run) = false
 writesIn (Address passed crc track) = false
 writesIn Await = false
-writesIn TrackRead = false
 writesIn (Preamble left passed) = true
 writesIn (Put left crc) = true
 writesIn (Format crc) = true
@@ -84,7 +83,7 @@ module _ (o : Order) (s : Seen) where
   abbrev mark : ℕ
   mark = markByte (markWritten (o .byte))
 
-  -- the last cell of the track ends it
+  -- cell L - 1 of a Write Track ends it
   abbrev unlessLast : Activity → Activity
   unlessLast next = cond (s .last) Idle next
 
@@ -136,10 +135,9 @@ module _ (o : Order) (s : Seen) where
         {n crc track : ℕ} → n < 5
         → Passes (Address n crc track) (Address (n + 1) (crcByte crc byte) (addressTrack n byte track)) (Deliver byte)
     address-over : {n crc track : ℕ} {bad : Bool} → Passes (Address n crc track) Idle (Named byte track bad)
-    -- the track commands
+    -- Write Track
     await-goes-on : s .index ≡ false → Passes Await Await Nothing
     await-fails : s .index ≡ true → Passes Await Idle Late
-    track-byte : Passes TrackRead (unlessLast TrackRead) (Deliver byte)
     -- Write Sector
     preamble-fails : {left n : ℕ} → Passes (Preamble left n) Idle Late
 
@@ -220,7 +218,7 @@ module _ (o : Order) (s : Seen) where
       by false m e = passes record-over
 
   pub acts : (a : Activity) → Acts a (activityAct o s a)
-  unfolding activityAct seekTurn seekDecision stepAct pulseTurn stopTurn settleTurn searchCell windowCell dataCell huntCell addressCell awaitTurn trackCell preambleTurn preambleNext putCell formatCell formatCrcCell untilLast writesIn
+  unfolding activityAct seekTurn seekDecision stepAct pulseTurn stopTurn settleTurn searchCell windowCell dataCell huntCell addressCell awaitTurn preambleTurn preambleNext putCell formatCell formatCrcCell untilLast writesIn
   acts Idle = passes idles
   acts (Seek n) =
       either
@@ -239,7 +237,6 @@ module _ (o : Order) (s : Seen) where
   acts (Hunt n run) = either (λ e. passes hunt-fails) (λ e. hunted-acts (markStep (s .mfm) (s .cell) run) refl (leb-false 5 _ e))
   acts (Address n crc track) = either (λ e. passes address-over) (λ e. passes (address-byte (leb-false 5 n e)))
   acts Await = either (λ e. passes (await-fails e)) (λ e. passes (await-goes-on e))
-  acts TrackRead = passes track-byte
   acts (Preamble left n) =
       either {b = eqb (n + 1) 10 && s .drq} (λ e. passes preamble-fails)
       (λ e.
@@ -259,10 +256,10 @@ module _ (o : Order) (s : Seen) where
   pub data Enters : Activity → Activity → Type 0 where
     goes-on : (a : Activity) → (a ≡ Settle 0 → s .hlt ≡ false) → Enters a a
     settled : {n : ℕ} → Enters (Settle n) (jobBegun s (jobOf (o .command)))
-    opened : s .index ≡ true → Enters Await (jobBegun s (jobOf (o .command)))
+    opened : Enters Await (Format preset)
 
   pub enters : (a : Activity) → Enters a (begunActivity o s a)
-  unfolding begunActivity
+  unfolding begunActivity formatBegun
   enters Idle = goes-on Idle (λ e. never (cc))
   enters (Seek n) = goes-on (Seek n) (λ e. never (cc))
   enters Pulse = goes-on Pulse (λ e. never (cc))
@@ -275,8 +272,7 @@ module _ (o : Order) (s : Seen) where
   enters (Data left crc deleted) = goes-on (Data left crc deleted) (λ e. never (cc))
   enters (Hunt n run) = goes-on (Hunt n run) (λ e. never (cc))
   enters (Address n crc track) = goes-on (Address n crc track) (λ e. never (cc))
-  enters Await = by-cond (Enters Await) (s .index) (λ e. opened e) (λ e. goes-on Await (λ f. never (cc)))
-  enters TrackRead = goes-on TrackRead (λ e. never (cc))
+  enters Await = by-cond (Enters Await) (s .index && not (s .drq)) (λ e. opened) (λ e. goes-on Await (λ f. never (cc)))
   enters (Preamble left n) = goes-on (Preamble left n) (λ e. never (cc))
   enters (Put left crc) = goes-on (Put left crc) (λ e. never (cc))
   enters (Format crc) = goes-on (Format crc) (λ e. never (cc))

@@ -12,7 +12,7 @@ use Rattle.act.proofs.Acts.{Enters, goes-on, settled, opened, enters}
 
 -- all but Settle (4) and Await (10)
 abbrev others : List ℕ
-others = 0 ∷ 1 ∷ 2 ∷ 3 ∷ 5 ∷ 6 ∷ 7 ∷ 8 ∷ 9 ∷ 11 ∷ 12 ∷ 13 ∷ 14 ∷ 15 ∷ []
+others = 0 ∷ 1 ∷ 2 ∷ 3 ∷ 5 ∷ 6 ∷ 7 ∷ 8 ∷ 9 ∷ 11 ∷ 12 ∷ 13 ∷ 14 ∷ []
 
 pub entered-else : (o : Order) (s : Seen) (a : Activity) → Among others a → a ≡ begunActivity o s a
 entered-else o s a = by (enters o s a)
@@ -20,4 +20,4 @@ entered-else o s a = by (enters o s a)
     by : {a acting : Activity} → Enters o s a acting → Among others a → a ≡ acting
     by (goes-on a f) h = refl
     by settled h = absurd (miss others 4 tt h)
-    by (opened e) h = absurd (miss others 10 tt h)
+    by opened h = absurd (miss others 10 tt h)

@@ -29,7 +29,7 @@ use Rattle.activity.specs.declared.Activity.{Activity}
 use Rattle.activity.specs.declared.Deed.{Deed}
 use Rattle.search.specs.Search.{afterMatch, afterRecord}
 use Rattle.writing.specs.Writing.{lastKept, lastZero, markPlace}
-use Rattle.act.specs.Turns.{jobBegun, actOf}
+use Rattle.act.specs.Turns.{formatBegun, jobBegun, actOf}
 use Rattle.act.proofs.Acts.{Passes, Writes, Acts, Enters, enters, turns}
 
 -- numbers by tests, and tests by numbers
@@ -91,17 +91,15 @@ served-within ibm length Job.Verify = refl
 served-within ibm length Job.ReadSector = all (all (le-leb (fieldSize ibm length + 2) mostRead (omega (arith, field-size-most ibm length))) refl) refl
 served-within ibm length Job.WriteSector = all (le-leb (fieldSize ibm length + 3) mostWritten (omega (arith, field-size-most ibm length))) refl
 served-within ibm length Job.ReadAddress = refl
-served-within ibm length Job.ReadTrack = refl
 served-within ibm length Job.WriteTrack = refl
 
 begun-within : (s : Seen) (j : Job) → IsWithin (jobBegun s j)
-unfolding jobBegun countsWithin scanWithin
+unfolding formatBegun jobBegun countsWithin scanWithin
 begun-within s Job.Nothing = refl
 begun-within s Job.Verify = refl
 begun-within s Job.ReadSector = refl
 begun-within s Job.WriteSector = refl
 begun-within s Job.ReadAddress = refl
-begun-within s Job.ReadTrack = by-cond IsWithin (s .index) (λ e. refl) (λ e. refl)
 begun-within s Job.WriteTrack = by-cond IsWithin (s .index && not (s .drq)) (λ e. refl) (λ e. refl)
 
 module _ (o : Order) (s : Seen) where
@@ -137,7 +135,6 @@ module _ (o : Order) (s : Seen) where
   passed Passes.address-over h = refl
   passed (Passes.await-goes-on e) h = refl
   passed (Passes.await-fails e) h = refl
-  passed Passes.track-byte h = by-cond IsWithin (s .last) (λ e. refl) (λ e. refl)
   passed Passes.preamble-fails h = refl
 
   written : {a next : Activity} {deed : Deed} {cell : ℕ} → Writes o s a cell next deed → IsWithin a → IsWithin next
@@ -158,9 +155,10 @@ module _ (o : Order) (s : Seen) where
   acted (Acts.writes e w) = written w
 
   entered : {a acting : Activity} → Enters o s a acting → IsWithin a → IsWithin acting
+  unfolding countsWithin
   entered (Enters.goes-on a f) h = h
   entered Enters.settled h = begun-within s (jobOf (o .command))
-  entered (Enters.opened e) h = begun-within s (jobOf (o .command))
+  entered Enters.opened h = refl
 
   pub within-kept : (a : Activity) → countsWithin a ≡ true → countsWithin (actOf o s a .next) ≡ true
   within-kept a h = acted (turns o s a) (entered (enters o s a) h)

@@ -12,25 +12,28 @@ use Rattle.activity.specs.Acts.{pass}
 use Rattle.activity.specs.declared.Seen.{Seen}
 use Rattle.activity.specs.declared.Act.{Act}
 use Rattle.activity.specs.declared.Activity.{Activity}
-use Rattle.activity.specs.declared.Activity.the-variants.{Idle, Seek, Pulse, Stop, Settle, Search, Window, Data, Hunt, Address, Await, TrackRead, Preamble, Put, Format, FormatCrc}
+use Rattle.activity.specs.declared.Activity.the-variants.{Idle, Seek, Pulse, Stop, Settle, Search, Window, Data, Hunt, Address, Await, Preamble, Put, Format, FormatCrc}
 use Rattle.activity.specs.declared.Deed.the-variants.{Nothing, Late}
 use Rattle.scan.specs.DataMarks.{markByte}
 use Rattle.stepping.specs.Stepping.{seekTurn, pulseTurn, stopTurn}
 use Rattle.search.specs.Search.{afresh, searchCell}
-use Rattle.reading.specs.Reading.{windowCell, dataCell, huntCell, addressCell, trackCell}
+use Rattle.reading.specs.Reading.{windowCell, dataCell, huntCell, addressCell}
 use Rattle.writing.specs.Writing.{preambleTurn, putCell}
 use Rattle.formatting.specs.Formatting.{formatCell, formatCrcCell}
 
--- "then begin with the first byte time that has HLT on": a verify and Type II search, Read Address hunts for a mark, and the
--- track commands begin at "the first index pulse", a Write Track only where its first byte was served
+-- Write Track: DRQ "still on at the first pulse: Lost Data, end. Else L cells from that pulse"; up to it, it waits
+unfoldable pub formatBegun : Seen → Activity
+formatBegun s = cond (s .index && not (s .drq)) (Format preset) Await
+
+-- "then begin with the first byte time that has HLT on": a verify and Type II search, Read Address hunts for a mark, and Write
+-- Track waits for its pulse, which may have come
 unfoldable pub jobBegun : Seen → Job → Activity
 jobBegun s job.Nothing = Idle
 jobBegun s job.Verify = afresh 0
 jobBegun s job.ReadSector = afresh 0
 jobBegun s job.WriteSector = afresh 0
 jobBegun s job.ReadAddress = Hunt 0 0
-jobBegun s job.ReadTrack = cond (s .index) TrackRead Await
-jobBegun s job.WriteTrack = cond (s .index && not (s .drq)) (Format preset) Await
+jobBegun s job.WriteTrack = formatBegun s
 
 -- What begins in this byte time: settled with HLT on, or at the pulse that is awaited, which is seen before its cell. All
 -- other activities go on.
@@ -45,8 +48,7 @@ begunActivity o s (Window left passed run) = Window left passed run
 begunActivity o s (Data left crc deleted) = Data left crc deleted
 begunActivity o s (Hunt pulses run) = Hunt pulses run
 begunActivity o s (Address passed crc track) = Address passed crc track
-begunActivity o s Await = cond (s .index) (jobBegun s (jobOf (o .command))) Await
-begunActivity o s TrackRead = TrackRead
+begunActivity o s Await = formatBegun s
 begunActivity o s (Preamble left passed) = Preamble left passed
 begunActivity o s (Put left crc) = Put left crc
 begunActivity o s (Format crc) = Format crc
@@ -73,7 +75,6 @@ activityAct o s (Data left crc deleted) = dataCell s (isMultiple (o .byte)) left
 activityAct o s (Hunt pulses run) = huntCell s pulses run
 activityAct o s (Address passed crc track) = addressCell s passed crc track
 activityAct o s Await = awaitTurn s
-activityAct o s TrackRead = trackCell s
 activityAct o s (Preamble left passed) = preambleTurn s (markByte (markWritten (o .byte))) left passed
 activityAct o s (Put left crc) = putCell s (isMultiple (o .byte)) left crc
 activityAct o s (Format crc) = formatCell s crc

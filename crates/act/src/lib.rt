@@ -1,8 +1,6 @@
 // What the controller does in a byte time, over one cell: its order, its activity and what it sees give an act.
 ghost use mathlib.Core.Path.{_≡_};
-ghost use mathlib.Core.Bool.{cond};
-ghost use Rattle.activity.specs.declared.Activity.the-variants.{Await};
-ghost use Rattle.act.specs.Turns.{jobBegun, begunActivity, settleTurn, awaitTurn, activityAct, actOf};
+ghost use Rattle.act.specs.Turns.{formatBegun, jobBegun, begunActivity, settleTurn, awaitTurn, activityAct, actOf};
 use activity::Act;
 use activity::Activity;
 use activity::Deed;
@@ -11,7 +9,18 @@ use command::Job;
 use command::Order;
 use scan::Scan;
 
-// What a command begins: with the first byte time that has HLT on, the track commands at the first index pulse.
+// A Write Track begins at the first index pulse, where its first byte was served.
+fn begin_format(s: Seen) -> Activity
+    ensures { λ r. ⌜ r ≡ formatBegun s ⌝ }
+{
+    if s.index & !s.drq {
+        Activity::Format(0xFFFF)
+    } else {
+        Activity::Await
+    }
+}
+
+// What a command begins with the first byte time that has HLT on.
 fn begin(s: Seen, job: Job) -> Activity
     ensures { λ r. ⌜ r ≡ jobBegun s job ⌝ }
 {
@@ -19,37 +28,24 @@ fn begin(s: Seen, job: Job) -> Activity
         Job::Nothing => Activity::Idle,
         Job::Verify | Job::ReadSector | Job::WriteSector => Activity::Search(0, Scan::Gap(0)),
         Job::ReadAddress => Activity::Hunt(0, 0),
-        Job::ReadTrack => begin_if(s.index, Activity::TrackRead),
-        Job::WriteTrack => begin_if(s.index & !s.drq, Activity::Format(0xFFFF)),
+        Job::WriteTrack => begin_format(s),
     }
-}
-
-fn begin_if(now: bool, activity: Activity) -> Activity
-    ensures { λ r. ⌜ r ≡ cond now activity Await ⌝ }
-{
-    if now { activity } else { Activity::Await }
 }
 
 // What goes on in this byte time: what begins in it has begun before the cell is looked at.
 fn entered(o: Order, s: Seen, activity: Activity) -> Activity
     ensures { λ r. ⌜ r ≡ begunActivity o s activity ⌝ }
 {
-    let command = o.command;
     match activity {
         Activity::Settle(left) => {
             if (left == 0) & s.hlt {
+                let command = o.command;
                 begin(s, command::job_of(command))
             } else {
                 activity
             }
         }
-        Activity::Await => {
-            if s.index {
-                begin(s, command::job_of(command))
-            } else {
-                activity
-            }
-        }
+        Activity::Await => begin_format(s),
         _ => activity,
     }
 }
@@ -116,7 +112,6 @@ fn react(o: Order, s: Seen, activity: Activity) -> Act
         Activity::Hunt(pulses, run) => reading::hunt(s, pulses, run),
         Activity::Address(passed, crc, track) => reading::address(s, passed, crc, track),
         Activity::Await => awaiting(s),
-        Activity::TrackRead => reading::track_read(s),
         Activity::Preamble(left, passed) => {
             let mark = command::bits::mark_written(o.byte);
             writing::preamble(s, scan::mark_byte(mark), left, passed)

@@ -10,7 +10,7 @@ use Rattle.command.specs.Sizes.{largestSize}
 use Rattle.scan.specs.declared.Scan.{Scan}
 use Rattle.scan.specs.declared.Scan.the-variants.{Gap, Field}
 use Rattle.activity.specs.declared.Activity.{Activity}
-use Rattle.activity.specs.declared.Activity.the-variants.{Idle, Seek, Pulse, Stop, Settle, Search, Window, Data, Hunt, Address, Await, TrackRead, Preamble, Put, Format, FormatCrc}
+use Rattle.activity.specs.declared.Activity.the-variants.{Idle, Seek, Pulse, Stop, Settle, Search, Window, Data, Hunt, Address, Await, Preamble, Put, Format, FormatCrc}
 
 -- Busy: a command is under way
 unfoldable pub busyIn : Activity → Bool
@@ -25,7 +25,6 @@ busyIn (Data left crc deleted) = true
 busyIn (Hunt pulses run) = true
 busyIn (Address passed crc track) = true
 busyIn Await = true
-busyIn TrackRead = true
 busyIn (Preamble left passed) = true
 busyIn (Put left crc) = true
 busyIn (Format crc) = true
@@ -66,7 +65,6 @@ countsWithin (Data left crc deleted) = leb left mostRead
 countsWithin (Hunt pulses run) = leb pulses mostPulses && leb run syncs
 countsWithin (Address passed crc track) = leb passed lastIdCell
 countsWithin Await = true
-countsWithin TrackRead = true
 countsWithin (Preamble left passed) = leb left mostWritten && leb passed lastPreamble
 countsWithin (Put left crc) = leb left mostWritten
 countsWithin (Format crc) = true

@@ -57,9 +57,8 @@ pub enum Activity {
     Hunt(u8, u8),
     // Cells passed after the ID mark, the register, the track.
     Address(u8, u16, u8),
-    // The track commands: for the first index pulse.
+    // Write Track: for the first index pulse.
     Await,
-    TrackRead,
     // Cells to write from the data on, and cells passed after the ID.
     Preamble(u16, u8),
     // Cells left to write, and the register.

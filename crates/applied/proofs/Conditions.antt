@@ -1,14 +1,16 @@
 -- Of one bad input of each call: its condition is met, and no earlier one. Assumes nothing.
 use mathlib.Core.Path.{_≡_, refl, sym, ap, _∙_}
-use mathlib.Core.Bool.{Bool, true≢false}
+use mathlib.Core.Bool.{Bool, true, false, true≢false}
 use mathlib.Core.List.{[]}
 use mathlib.Core.Logic.{inl, inr}
 use Prim.Native.Nat.{ℕ, _<_}
 use native.Mathlib.Omega.{arith}
 use lib.ListN.{length-replicate, getD-replicate}
+use mir.Val.{hasKey}
 use Rattle.common.proofs.Cases.{never}
 use Rattle.scan.specs.Rows.{lengthWithin}
-use Rattle.command.specs.Commands.{decodedByBoth, decodedWithU, decodedOf}
+use Rattle.command.specs.Commands.{decodedByBoth, decodedWithU, decodedOf, decodeRefusal}
+use Rattle.command.proofs.Cases.{refusedBytes, listed-refused, others-taken}
 use Rattle.command.specs.declared.Chip.the-variants.{Wd1793, Wd1797}
 use Rattle.command.specs.declared.Decoded.{Decoded}
 use Rattle.command.specs.declared.Decoded.the-variants.{NoCommand}
@@ -25,7 +27,7 @@ use Rattle.safe.specs.Viewer.{AtViewer, viewer-1, viewer-4, viewer-11}
 use Rattle.safe.proofs.Refusals.{valid, Takes, takes, refuses, named}
 use Rattle.command.specs.declared.Chip.{Chip}
 use Rattle.in_time.proofs.Scenes.{fresh}
-use Rattle.applied.specs.Refusals.{high}
+use Rattle.applied.specs.Refusals.{high, NoLonger}
 
 -- the number whose condition is met, and no earlier one's
 pub first-row : {Row : ℕ → Type 0} {number : ℕ} (k : ℕ)
@@ -51,6 +53,42 @@ is-none Wd1797 = refused (named Wd1797 0x9F) refl
 
 pub is-one : (chip : Chip) → IsCommand chip 0x80
 is-one chip = inl (inr (inr (inr (inr (inr (inl ((omega arith, omega arith), refl)))))))
+
+-- none of the four is
+none-at : (chip : Chip) {b is : ℕ} → b ≡ is → decodedOf chip is ≡ NoCommand → IsCommand chip b → ⊥
+none-at chip e none = refused (named chip _) (ap (decodedOf chip) e ∙ none)
+
+pub no-longer : (chip : Chip) (b : ℕ) → NoLonger b → IsCommand chip b → ⊥
+unfolding decodedOf decodedByBoth decodedWithU
+no-longer Wd1793 b (inl e) = none-at Wd1793 e refl
+no-longer Wd1793 b (inr (inl e)) = none-at Wd1793 e refl
+no-longer Wd1793 b (inr (inr (inl e))) = none-at Wd1793 e refl
+no-longer Wd1793 b (inr (inr (inr e))) = none-at Wd1793 e refl
+no-longer Wd1797 b (inl e) = none-at Wd1797 e refl
+no-longer Wd1797 b (inr (inl e)) = none-at Wd1797 e refl
+no-longer Wd1797 b (inr (inr (inl e))) = none-at Wd1797 e refl
+no-longer Wd1797 b (inr (inr (inr e))) = none-at Wd1797 e refl
+
+-- of the 256 bytes, those of the list and no others
+pub listed-none : (chip : Chip) (b : ℕ) → b < 256 → hasKey (refusedBytes chip) b ≡ true → IsCommand chip b → ⊥
+listed-none chip b low e = refused (named chip b) (sym (listed-refused chip low e))
+
+is-taken : {X : Type 0} {d : Decoded} → Takes X d → 0 ≡ decodeRefusal d → X
+is-taken (takes c x) e = x
+is-taken (refuses none) e = absurd (omega (arith, e))
+
+pub none-listed : (chip : Chip) (b : ℕ) → b < 256 → (IsCommand chip b → ⊥) → hasKey (refusedBytes chip) b ≡ true
+none-listed chip b low none = by (hasKey (refusedBytes chip) b) refl
+  where
+    by : (c : Bool) → hasKey (refusedBytes chip) b ≡ c → hasKey (refusedBytes chip) b ≡ true
+    by true e = e
+    by false e = absurd (none (is-taken (named chip b) (others-taken chip low e)))
+
+pub no-seven : {m : Machine} {l : Lines} {number b t : ℕ} → AtLoad m l number b t → t ≡ 7 → IsCommand (m .chip) b → ⊥
+no-seven (load-2 c) e = absurd (omega (arith, e))
+no-seven (load-5 c) e = absurd (omega (arith, e))
+no-seven (load-6 c) e = absurd (omega (arith, e))
+no-seven (load-7 z none) e = none
 
 -- C2 has U
 pub none-without-u : IsCommand Wd1793 0xC2 → ⊥

@@ -20,7 +20,7 @@ use Rattle.uses.specs.Contracts.{PowerOnCall, LoadCall}
 use Rattle.in_time.proofs.Scenes.{fresh}
 use Rattle.demands.proofs.Demand1.{demand-1}
 use Rattle.applied.specs.Refusals.{Refusals}
-use Rattle.applied.proofs.Conditions.{first-row, is-none, is-one, none-without-u, one-with-u, before-one, taken, before-seven, before-five, before-three, before-viewer}
+use Rattle.applied.proofs.Conditions.{first-row, is-none, is-one, no-longer, listed-none, none-listed, no-seven, none-without-u, one-with-u, before-one, taken, before-seven, before-five, before-three, before-viewer}
 use Rattle.applied.proofs.HighCells.{above, stopped}
 
 -- a byte that is no command of the chip
@@ -55,6 +55,12 @@ refusals =
       command = λ mfm chip l r call.
           demand-1 .load (fresh mfm chip) l 0 0x80 r call .given .done .1 (taken mfm chip l 0x80 (is-one chip));
       no-command = λ mfm chip l. no-command mfm chip l 0x9F (is-none chip);
+      no-longer = λ mfm chip l b is. no-command mfm chip l b (no-longer chip b is);
+      listed = λ mfm chip l b low r call.
+          let given = demand-1 .load (fresh mfm chip) l 0 b r call .given in (
+            λ is. let (t, at, row, earlier) = given .exactly 7 (omega arith) .0 is in none-listed chip b low (no-seven row at),
+            λ e. no-command mfm chip l b (listed-none chip b low e) r call .0,
+          );
       with-u = λ mfm l r call. demand-1 .load (fresh mfm Wd1797) l 0 0xC2 r call .given .done .1 (taken mfm Wd1797 l 0xC2 one-with-u);
       without-u = λ mfm l. no-command mfm Wd1793 l 0xC2 none-without-u;
       no-register = λ mfm chip l r call.

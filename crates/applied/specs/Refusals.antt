@@ -1,9 +1,11 @@
 -- Demand 1 for one bad input of each call: what it gets, by number, and what it leaves. Assumes nothing.
 use mathlib.Core.Path.{_≡_}
-use mathlib.Core.Bool.{Bool, false}
+use mathlib.Core.Bool.{Bool, true, false}
 use mathlib.Core.List.{List, []}
+use mathlib.Core.Logic.{_⊎_, _↔_}
 use Prim.Native.Nat.{ℕ, _<_}
 use lib.ListN.{replicate}
+use mir.Val.{hasKey}
 use Rattle.registers.specs.declared.Lines.{Lines}
 use Rattle.picture.specs.declared.Answer.{Answer}
 use Rattle.wd.specs.declared.Started.{Started}
@@ -12,6 +14,7 @@ use Rattle.wd.specs.declared.Read.{Read}
 use Rattle.wd.specs.declared.Passed.{Passed}
 use Rattle.wd.specs.declared.Ran.{Ran}
 use Rattle.reachable.proofs.Samples.{sampleLength}
+use Rattle.command.proofs.Cases.{refusedBytes}
 use Rattle.command.specs.declared.Chip.{Chip}
 use Rattle.command.specs.declared.Chip.the-variants.{Wd1793, Wd1797}
 use Rattle.in_time.proofs.Scenes.{fresh}
@@ -20,6 +23,10 @@ use Rattle.uses.specs.Contracts.{PowerOnCall, LoadCall, ReadCall, ByteTimeCall,
 -- 2,048 cells above 511
 abbrev pub high : List ℕ
 high = replicate sampleLength 512
+
+-- "E0, E2, E4, E6"
+abbrev pub NoLonger : ℕ → Type 0
+NoLonger b = (b ≡ 0xE0) ⊎ (b ≡ 0xE2) ⊎ (b ≡ 0xE4) ⊎ (b ≡ 0xE6)
 
 -- the machine at power-on, of either density and chip, under any lines
 pub record Refusals : Type 0 where
@@ -31,7 +38,19 @@ pub record Refusals : Type 0 where
   pub no-command : (mfm : Bool) (chip : Chip) (l : Lines) (r : Loaded)
       → LoadCall (fresh mfm chip) l 0 0x9F r
       → (r .number ≡ 7) × (r .machine ≡ fresh mfm chip)
-  -- "C2, C6, E2, E6, F2, F6 become commands for this chip only"
+  -- "On both chips E0, E2, E4, E6 are no longer commands."
+  pub no-longer : (mfm : Bool) (chip : Chip) (l : Lines) (b : ℕ)
+      → NoLonger b
+      → (r : Loaded)
+      → LoadCall (fresh mfm chip) l 0 b r
+      → (r .number ≡ 7) × (r .machine ≡ fresh mfm chip)
+  -- 7: "the byte is no command": of the 256, those of the list, 60 on the WD1793 and 56 on the WD1797, and no others
+  pub listed : (mfm : Bool) (chip : Chip) (l : Lines) (b : ℕ)
+      → b < 256
+      → (r : Loaded)
+      → LoadCall (fresh mfm chip) l 0 b r
+      → (r .number ≡ 7) ↔ (hasKey (refusedBytes chip) b ≡ true)
+  -- "C2, C6, .. F2, F6 become commands for this chip only"
   pub with-u : (mfm : Bool) (l : Lines) (r : Loaded) → LoadCall (fresh mfm Wd1797) l 0 0xC2 r → r .number ≡ 0
   pub without-u : (mfm : Bool) (l : Lines) (r : Loaded)
       → LoadCall (fresh mfm Wd1793) l 0 0xC2 r

@@ -10,7 +10,7 @@ use Rattle.command.proofs.Command as command-type
 use Rattle.command.proofs.Class as class-type
 use Rattle.command.proofs.Job as job-type
 use Rattle.command.specs.declared.Command.{Command}
-use Rattle.command.specs.declared.Command.the-variants.{Restore, Seek, Step, StepIn, StepOut, ReadSector, WriteSector, ReadAddress, ReadTrack, WriteTrack, ForceInterrupt}
+use Rattle.command.specs.declared.Command.the-variants.{Restore, Seek, Step, StepIn, StepOut, ReadSector, WriteSector, ReadAddress, WriteTrack, ForceInterrupt}
 use Rattle.command.specs.declared.Class.{Class}
 use Rattle.command.specs.declared.Class.the-variants.{Seeks, Steps, Works, Forces}
 use Rattle.command.specs.declared.Job.{Job}
@@ -22,7 +22,7 @@ number command = tagOf command-type.the-type command
 abbrev command-at : ℕ → Command
 command-at n =
     getD
-    (Restore ∷ Seek ∷ Step ∷ StepIn ∷ StepOut ∷ ReadSector ∷ WriteSector ∷ ReadAddress ∷ ReadTrack ∷ WriteTrack ∷ ForceInterrupt ∷ []) n
+    (Restore ∷ Seek ∷ Step ∷ StepIn ∷ StepOut ∷ ReadSector ∷ WriteSector ∷ ReadAddress ∷ WriteTrack ∷ ForceInterrupt ∷ []) n
     Restore
 
 pub command-arm : {A : Type 0} (f : Command → A) {answer : A} (command : Command) (named : List Command)
@@ -38,7 +38,6 @@ command-arm = named-arm number command-at back
     back ReadSector = refl
     back WriteSector = refl
     back ReadAddress = refl
-    back ReadTrack = refl
     back WriteTrack = refl
     back ForceInterrupt = refl
 
@@ -63,7 +62,7 @@ job-number j = tagOf job-type.the-type j
 
 abbrev job-at : ℕ → Job
 job-at n =
-    getD (job.Nothing ∷ job.Verify ∷ job.ReadSector ∷ job.WriteSector ∷ job.ReadAddress ∷ job.ReadTrack ∷ job.WriteTrack ∷ []) n
+    getD (job.Nothing ∷ job.Verify ∷ job.ReadSector ∷ job.WriteSector ∷ job.ReadAddress ∷ job.WriteTrack ∷ []) n
     job.Nothing
 
 pub jobs : {A : Type 0} (f : Job → A) {answer : A} (j : Job) (named : List Job)
@@ -76,5 +75,4 @@ jobs = named-arm job-number job-at back
     back job.ReadSector = refl
     back job.WriteSector = refl
     back job.ReadAddress = refl
-    back job.ReadTrack = refl
     back job.WriteTrack = refl

@@ -1,4 +1,4 @@
--- Which command a byte is, and how it is taken up: document 01, "Registers and commands", and document 02, i.
+-- Which command a byte is, and how it is taken up: document 01, "Registers and commands", and document 02, i and m.
 -- Assumes nothing.
 use Prim.Native.Nat.{ℕ, _%_}
 use mathlib.Core.Bool.{Bool, true, false, cond, _&&_, _||_}
@@ -6,7 +6,7 @@ use lib.Dec.{leb, eqb}
 use Rattle.command.specs.declared.Chip.{Chip}
 use Rattle.command.specs.declared.Chip.the-variants.{Wd1793, Wd1797}
 use Rattle.command.specs.declared.Command.{Command}
-use Rattle.command.specs.declared.Command.the-variants.{Restore, Seek, Step, StepIn, StepOut, ReadSector, WriteSector, ReadAddress, ReadTrack, WriteTrack, ForceInterrupt}
+use Rattle.command.specs.declared.Command.the-variants.{Restore, Seek, Step, StepIn, StepOut, ReadSector, WriteSector, ReadAddress, WriteTrack, ForceInterrupt}
 use Rattle.command.specs.declared.Decoded.{Decoded}
 use Rattle.command.specs.declared.Decoded.the-variants.{Taken, NoCommand}
 use Rattle.command.specs.declared.Class.{Class}
@@ -18,8 +18,9 @@ use Rattle.command.specs.declared.Job.the-variants as job
 abbrev pub within : ℕ → ℕ → ℕ → Bool
 within first last byte = leb first byte && leb byte last
 
--- What both chips take: 00-0F Restore, 10-1F Seek, 20-3F Step, 40-5F Step-in, 60-7F Step-out, all Type I; even 80-9E Read Sector;
--- A0-BF Write Sector; C0, C4 Read Address; E0, E4 Read Track; F0, F4 Write Track; D0-DF Force Interrupt.
+-- What both chips take: "00-0F Restore, 10-1F Seek, 20-3F Step, 40-5F Step-in, 60-7F Step-out, all Type I; even 80-9E Read Sector;
+-- A0-BF Write Sector; C0, C4 Read Address; .. F0, F4 Write Track; D0-DF Force Interrupt." And "On both chips E0, E2, E4, E6 are no
+-- longer commands."
 unfoldable pub decodedByBoth : ℕ → Decoded
 decodedByBoth byte =
     cond (within 0x00 0x0F byte) (Taken Restore)
@@ -30,20 +31,18 @@ decodedByBoth byte =
     (cond (within 0x80 0x9E byte && eqb (byte % 2) 0) (Taken ReadSector)
     (cond (within 0xA0 0xBF byte) (Taken WriteSector)
     (cond (eqb byte 0xC0 || eqb byte 0xC4) (Taken ReadAddress)
-    (cond (eqb byte 0xE0 || eqb byte 0xE4) (Taken ReadTrack)
     (cond (eqb byte 0xF0 || eqb byte 0xF4) (Taken WriteTrack)
     (cond (within 0xD0 0xDF byte) (Taken ForceInterrupt)
-    NoCommand))))))))))
+    NoCommand)))))))))
 
--- The other bytes are refused, but on the 1797 "bit 1 of Type III commands is U too, so C2, C6, E2, E6, F2, F6 become commands for
--- this chip only".
+-- The other bytes are refused, but on the 1797 "bit 1 of Type III commands is U too, so C2, C6, .. F2, F6 become commands for this
+-- chip only".
 unfoldable pub decodedWithU : Chip → ℕ → Decoded
 decodedWithU Wd1793 byte = NoCommand
 decodedWithU Wd1797 byte =
     cond (eqb byte 0xC2 || eqb byte 0xC6) (Taken ReadAddress)
-    (cond (eqb byte 0xE2 || eqb byte 0xE6) (Taken ReadTrack)
     (cond (eqb byte 0xF2 || eqb byte 0xF6) (Taken WriteTrack)
-    NoCommand))
+    NoCommand)
 
 -- what is taken, or else the other
 abbrev pub takenOr : Decoded → Decoded → Decoded
@@ -70,7 +69,6 @@ classOf StepOut = Steps
 classOf ReadSector = Works
 classOf WriteSector = Works
 classOf ReadAddress = Works
-classOf ReadTrack = Works
 classOf WriteTrack = Works
 classOf ForceInterrupt = Forces
 
@@ -85,7 +83,6 @@ jobOf StepOut = job.Verify
 jobOf ReadSector = job.ReadSector
 jobOf WriteSector = job.WriteSector
 jobOf ReadAddress = job.ReadAddress
-jobOf ReadTrack = job.ReadTrack
 jobOf WriteTrack = job.WriteTrack
 jobOf ForceInterrupt = job.Nothing
 
@@ -99,6 +96,5 @@ isRestore StepOut = false
 isRestore ReadSector = false
 isRestore WriteSector = false
 isRestore ReadAddress = false
-isRestore ReadTrack = false
 isRestore WriteTrack = false
 isRestore ForceInterrupt = false

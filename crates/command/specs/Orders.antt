@@ -3,7 +3,7 @@
 use Prim.Native.Nat.{ℕ}
 use mathlib.Core.Bool.{Bool, true, false}
 use Rattle.command.specs.declared.Command.{Command}
-use Rattle.command.specs.declared.Command.the-variants.{Restore, Seek, Step, StepIn, StepOut, ReadSector, WriteSector, ReadAddress, ReadTrack, WriteTrack, ForceInterrupt}
+use Rattle.command.specs.declared.Command.the-variants.{Restore, Seek, Step, StepIn, StepOut, ReadSector, WriteSector, ReadAddress, WriteTrack, ForceInterrupt}
 use Rattle.command.specs.declared.Order.{Order}
 use Rattle.command.specs.declared.Chip.{Chip}
 use Rattle.command.specs.Bits.{sideAsked, ibmLengths}
@@ -19,7 +19,6 @@ inwardOf StepOut last = false
 inwardOf ReadSector last = last
 inwardOf WriteSector last = last
 inwardOf ReadAddress last = last
-inwardOf ReadTrack last = last
 inwardOf WriteTrack last = last
 inwardOf ForceInterrupt last = last
 

@@ -24,7 +24,6 @@ pub enum Command {
     ReadSector,
     WriteSector,
     ReadAddress,
-    ReadTrack,
     WriteTrack,
     ForceInterrupt,
 }
@@ -51,7 +50,6 @@ pub enum Job {
     ReadSector,
     WriteSector,
     ReadAddress,
-    ReadTrack,
     WriteTrack,
 }
 
@@ -80,7 +78,6 @@ fn decode_with_u(chip: Chip, byte: u8) -> Decoded
         Chip::Wd1793 => Decoded::NoCommand,
         Chip::Wd1797 => match byte {
             0xC2 | 0xC6 => Decoded::Taken(Command::ReadAddress),
-            0xE2 | 0xE6 => Decoded::Taken(Command::ReadTrack),
             0xF2 | 0xF6 => Decoded::Taken(Command::WriteTrack),
             _ => Decoded::NoCommand,
         },
@@ -106,7 +103,6 @@ fn decode_by_both(byte: u8) -> Decoded
         }
         0xA0..=0xBF => Decoded::Taken(Command::WriteSector),
         0xC0 | 0xC4 => Decoded::Taken(Command::ReadAddress),
-        0xE0 | 0xE4 => Decoded::Taken(Command::ReadTrack),
         0xF0 | 0xF4 => Decoded::Taken(Command::WriteTrack),
         0xD0..=0xDF => Decoded::Taken(Command::ForceInterrupt),
         _ => Decoded::NoCommand,
@@ -132,7 +128,7 @@ pub fn class_of(command: Command) -> Class
         Command::Restore | Command::Seek => Class::Seeks,
         Command::Step | Command::StepIn | Command::StepOut => Class::Steps,
         Command::ReadSector | Command::WriteSector => Class::Works,
-        Command::ReadAddress | Command::ReadTrack | Command::WriteTrack => Class::Works,
+        Command::ReadAddress | Command::WriteTrack => Class::Works,
         Command::ForceInterrupt => Class::Forces,
     }
 }
@@ -147,7 +143,6 @@ pub fn job_of(command: Command) -> Job
         Command::ReadSector => Job::ReadSector,
         Command::WriteSector => Job::WriteSector,
         Command::ReadAddress => Job::ReadAddress,
-        Command::ReadTrack => Job::ReadTrack,
         Command::WriteTrack => Job::WriteTrack,
         Command::ForceInterrupt => Job::Nothing,
     }

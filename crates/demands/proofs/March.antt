@@ -8,7 +8,7 @@ use Rattle.common.specs.Bits.{bitOf}
 use Rattle.command.specs.declared.Chip.{Chip}
 use Rattle.command.specs.Commands.{classOf, decodedByBoth, decodedWithU, decodedOf}
 use Rattle.command.specs.declared.Command.{Command}
-use Rattle.command.specs.declared.Command.the-variants.{ReadSector, WriteSector, ReadAddress, ReadTrack, WriteTrack}
+use Rattle.command.specs.declared.Command.the-variants.{ReadSector, WriteSector, ReadAddress, WriteTrack}
 use Rattle.command.specs.declared.Class.the-variants.{Works}
 use Rattle.command.specs.declared.Decoded.the-variants.{Taken}
 use Rattle.registers.specs.declared.Lines.{Lines}
@@ -23,7 +23,7 @@ use Rattle.hosts.proofs.Accepted.{given-flags}
 use Rattle.hosts.proofs.ByteTimes.{kind-later}
 use Rattle.hosts.proofs.QuietCalls.{calls-bus, calls-valid}
 use Rattle.hosts.proofs.Views.{stays-valid}
-use Rattle.lost_data.specs.LostData.{lostData, ReadCommand, read-sector, read-address, read-track, WriteCommand, write-sector, write-track, AcceptedAlone, ByteLost, ZeroWritten, Terminated, PutOver}
+use Rattle.lost_data.specs.LostData.{lostData, ReadCommand, read-sector, read-address, WriteCommand, write-sector, write-track, AcceptedAlone, ByteLost, ZeroWritten, Terminated, PutOver}
 use Rattle.lost_data.proofs.NeverSilently.{no-byte-silently}
 use Rattle.lost_data.proofs.LostInRead.{lost-in-a-read}
 use Rattle.lost_data.proofs.LostInWrite.{lost-in-a-write}
@@ -129,7 +129,6 @@ read-works : {command : Command} → ReadCommand command → classOf command ≡
 unfolding classOf
 read-works read-sector = refl
 read-works read-address = refl
-read-works read-track = refl
 
 write-works : {command : Command} → WriteCommand command → classOf command ≡ Works
 unfolding classOf
@@ -142,12 +141,8 @@ unfolding decodedOf decodedByBoth decodedWithU
 read-bytes chip b (courses.read-sector first last even) = (ReadSector, reads-sector chip b first last even, read-sector)
 read-bytes chip b (courses.read-address (inl e)) = (ReadAddress, ap (decodedOf chip) e, read-address)
 read-bytes chip b (courses.read-address (inr e)) = (ReadAddress, ap (decodedOf chip) e, read-address)
-read-bytes chip b (courses.read-track (inl e)) = (ReadTrack, ap (decodedOf chip) e, read-track)
-read-bytes chip b (courses.read-track (inr e)) = (ReadTrack, ap (decodedOf chip) e, read-track)
 read-bytes chip b (courses.read-address-with-u is (inl e)) = (ReadAddress, (λ i. decodedOf (is i) (e i)), read-address)
 read-bytes chip b (courses.read-address-with-u is (inr e)) = (ReadAddress, (λ i. decodedOf (is i) (e i)), read-address)
-read-bytes chip b (courses.read-track-with-u is (inl e)) = (ReadTrack, (λ i. decodedOf (is i) (e i)), read-track)
-read-bytes chip b (courses.read-track-with-u is (inr e)) = (ReadTrack, (λ i. decodedOf (is i) (e i)), read-track)
 
 write-bytes : (chip : Chip) (b : ℕ) → WriteByte chip b → (command : Command) × (decodedOf chip b ≡ Taken command) × WriteCommand command
 unfolding decodedOf decodedByBoth decodedWithU

@@ -6,7 +6,7 @@ use native.Mathlib.Omega.{arith}
 use lib.ListN.{length}
 use Rattle.command.specs.Commands.{classOf, jobOf}
 use Rattle.command.specs.declared.Command.{Command}
-use Rattle.command.specs.declared.Command.the-variants.{Restore, Seek, Step, StepIn, StepOut, ReadSector, WriteSector, ReadAddress, ReadTrack, WriteTrack, ForceInterrupt}
+use Rattle.command.specs.declared.Command.the-variants.{Restore, Seek, Step, StepIn, StepOut, ReadSector, WriteSector, ReadAddress, WriteTrack, ForceInterrupt}
 use Rattle.activity.specs.Limits.{busyIn}
 use Rattle.accepting.specs.Accepting.{beginActivity}
 use Rattle.wd.specs.declared.Machine.{Machine}
@@ -16,7 +16,7 @@ use Rattle.hosts.specs.Scenes.{Scene, loaded}
 use Rattle.hosts.proofs.Searching.{reads, writes as writes-sector}
 use Rattle.hosts.proofs.Intrq.{ends-told}
 use Rattle.ends.specs.Ends.{EndPremises, KeepsTarget, fiveRounds, boundOf, Ends}
-use Rattle.ends.proofs.Left.{begunLeft, reads-track, writes-track}
+use Rattle.ends.proofs.Left.{begunLeft, writes-track}
 use Rattle.ends.proofs.Drains.{Over, over-now, later, over-ends}
 use Rattle.ends.proofs.Begun.{started}
 use Rattle.ends.proofs.TypeOne.{seeks-over, steps-over, steady-by, restore-most, seek-most}
@@ -57,10 +57,6 @@ over-by s WriteSector asked keeps =
 over-by s ReadAddress asked keeps =
     later (s .host) (loaded s) (omega arith)
     (worked-over asked refl (fiveRounds s) (λ w. address-over w refl))
-over-by s ReadTrack asked keeps =
-    later (s .host) (loaded s) (omega arith)
-    (worked-over asked refl (2 * length (s .row) - 1)
-    (λ w. track-over w reads-track))
 over-by s WriteTrack asked keeps =
     later (s .host) (loaded s) (omega arith)
     (worked-over asked refl (2 * length (s .row) - 1)

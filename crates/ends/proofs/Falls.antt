@@ -21,20 +21,20 @@ use Rattle.activity.specs.Acts.{pass, write, takenOf}
 use Rattle.activity.specs.Limits.{busyIn}
 use Rattle.activity.specs.declared.Act.{Act}
 use Rattle.activity.specs.declared.Activity.{Activity}
-use Rattle.activity.specs.declared.Activity.the-variants.{Idle, Settle, Await, TrackRead}
+use Rattle.activity.specs.declared.Activity.the-variants.{Idle, Settle, Await, Format}
 use Rattle.activity.specs.declared.Deed.{Deed}
 use Rattle.stepping.specs.Stepping.{trackAfter}
 use Rattle.search.specs.Search.{pulsesSeen, afterMatch, afterRecord}
 use Rattle.writing.specs.Writing.{lastKept, lastZero, markPlace, markCell, preambleCell}
 use Rattle.formatting.specs.Formatting.{presets, laidCell, laidCrc}
-use Rattle.act.specs.Turns.{jobBegun, actOf}
+use Rattle.act.specs.Turns.{formatBegun, jobBegun, actOf}
 use Rattle.act.proofs.Acts.{StopsIn, Passes, Writes, Acts, Enters, enters, turns}
 use Rattle.registers.specs.Rings.{ringNext}
 use Rattle.effects.specs.Effects.{stepped, effectOf}
 use Rattle.effects.proofs.Apart.{regsAfter}
 use Rattle.hosts.proofs.DataFields.{mark-word}
 use Rattle.ends.specs.Ends.{apart}
-use Rattle.ends.proofs.Left.{Next, to-start, onward, next-place, toFifth, verifyLeft, begunLeft, down, toEnd, leftOf, Plain, verifies, reads-track, writes-track, Counted, seeks, fifth-most, fifth-some, fifth-nearer}
+use Rattle.ends.proofs.Left.{Next, to-start, onward, next-place, toFifth, verifyLeft, begunLeft, down, toEnd, leftOf, Plain, verifies, writes-track, Counted, seeks, fifth-most, fifth-some, fifth-nearer}
 use Rattle.ends.proofs.Moments.{Moment, ringAt, mfmAt, orderAt, seenAt, regsAt, left, leftAfter, Aims, Low, Word, Good, writes, passes, ends, more-left, size, some, index, taken-byte}
 
 -- "TR moves by one towards DR"
@@ -79,7 +79,7 @@ module _ (x : Moment) where
       by (to-start e there) = rw (there, off) (omega arith)
       by (onward e there) = rw (there, off, ne-eqb (suc (ringAt x .position)) 0 (omega arith)) (omega arith)
 
-  -- a cell of a track, of which the last ends the command
+  -- a cell of a Write Track, of which the last ends it
   track-falls : (cell : ℕ) (next : Activity) (deed : Deed) → cell ≤ 511 → Counted (orderAt x) next → seeks next ≡ false
       → leftAfter x deed next ≡ toEnd (ringNext (ringAt x))
       → Good x (toEnd (ringAt x)) (write cell (cond (seenAt x .last) Idle next) deed)
@@ -170,7 +170,6 @@ module _ (x : Moment) where
   passed Passes.address-over _ _ _ _ = ends x _ _ (omega arith)
   passed (Passes.await-goes-on off) _ _ counted _ = passes x _ Await Deed.Nothing (await-falls off) counted refl
   passed (Passes.await-fails on) _ _ _ _ = ends x _ _ (rw on (omega (arith, x .long)))
-  passed Passes.track-byte _ _ _ _ = track-falls (seenAt x .cell) TrackRead _ (x .low) tt refl refl
   passed Passes.preamble-fails _ _ _ _ = ends x _ _ (omega arith)
 
   written : {a next : Activity} {deed : Deed} {cell : ℕ} → Writes (orderAt x) (seenAt x) a cell next deed
@@ -213,29 +212,19 @@ module _ (x : Moment) where
   unfolding leftOf
   enough = by-cond (λ n. toEnd (ringAt x) ≤ n) (index x) (λ on. omega arith) (λ off. omega arith)
 
-  awaits : {j : Job} → jobOf (orderAt x .command) ≡ j → (j ≡ Job.Verify → ⊥) → Plain j → Comes (left x Await) Await
-  unfolding busyIn Counted seeks
-  awaits e track plain = (omega arith, refl, (λ f. never (cc)), (rw e plain, rw e track), λ f. never (cc))
-
-  -- a track command, at the first pulse
-  opens : {j : Job} → jobOf (orderAt x .command) ≡ j → (j ≡ Job.Verify → ⊥) → Plain j
-      → Comes (left x Await) (jobBegun (seenAt x) j)
-  unfolding jobBegun leftOf busyIn Counted seeks
-  opens e track verifies = absurd (track refl)
-  opens e track reads-track =
-      by-cond (Comes (left x Await)) (index x) (λ on. (enough, refl, (λ f. never (cc)), tt, λ f. never (cc)))
-      (λ off. awaits e track reads-track)
-  opens e track writes-track =
-      by-cond (Comes (left x Await)) (index x && not (x .outside .drq))
-      (λ on. (enough, refl, (λ f. never (cc)), omega arith, λ f. never (cc)))
-      (λ off. awaits e track writes-track)
+  -- a Write Track, at the first pulse
+  opens : Comes (left x Await) (Format preset)
+  unfolding leftOf busyIn Counted seeks
+  opens = (enough, refl, (λ f. never (cc)), omega arith, λ f. never (cc))
 
   begins : {j : Job} → jobOf (orderAt x .command) ≡ j → Plain j → Comes (begunLeft j (ringAt x .length)) (jobBegun (seenAt x) j)
-  unfolding jobBegun leftOf busyIn Counted seeks begunLeft
+  unfolding formatBegun jobBegun leftOf busyIn Counted seeks begunLeft
   begins e verifies =
       (fifth-most (ringAt x) (x .inside) (some x), refl, (λ f. never (cc)), e, λ f. never (cc))
-  begins e reads-track = later await-most (opens e (λ f. never (cc)) reads-track)
-  begins e writes-track = later await-most (opens e (λ f. never (cc)) writes-track)
+  begins e writes-track =
+      later await-most
+      (by-cond (Comes (left x Await)) (index x && not (x .outside .drq)) (λ on. opens)
+      (λ off. (omega arith, refl, (λ f. never (cc)), tt, λ f. never (cc))))
 
   entered : {a acting : Activity} → Enters (orderAt x) (seenAt x) a acting → busyIn a ≡ true → Counted (orderAt x) a
       → (seeks a ≡ true → Aims x (regsAt x))
@@ -244,7 +233,7 @@ module _ (x : Moment) where
   entered (Enters.goes-on a f) busy counted aims =
       (omega arith, busy, (λ e. never (cc (f e, x .hlt))), counted, aims)
   entered (Enters.settled {n}) busy counted aims = later (omega arith) (begins refl counted)
-  entered (Enters.opened on) busy counted aims = opens refl (counted .1) (counted .0)
+  entered Enters.opened busy counted aims = opens
 
   good : {a : Activity} {act : Act} → Acts (orderAt x) (seenAt x) a act → {most : ℕ} → Comes most a → Good x most act
   good (Acts.passes p) c = more-left x (c .0) (passed p (c .1) (c .2) (c .3) (c .4))

@@ -15,7 +15,7 @@ use Rattle.command.specs.declared.Order.{Order}
 use Rattle.command.specs.declared.Job.{Job}
 use Rattle.command.specs.declared.Job.the-variants as job
 use Rattle.activity.specs.declared.Activity.{Activity}
-use Rattle.activity.specs.declared.Activity.the-variants.{Idle, Seek, Pulse, Stop, Settle, Search, Window, Data, Hunt, Address, Await, TrackRead, Preamble, Put, Format, FormatCrc}
+use Rattle.activity.specs.declared.Activity.the-variants.{Idle, Seek, Pulse, Stop, Settle, Search, Window, Data, Hunt, Address, Await, Preamble, Put, Format, FormatCrc}
 use Rattle.search.specs.Search.{pulsesSeen}
 use Rattle.scan.specs.DataMarks.{windowOf}
 use Rattle.writing.specs.Writing.{markPlace}
@@ -64,7 +64,6 @@ begunLeft job.Verify size = 5 * size
 begunLeft job.ReadSector size = 0
 begunLeft job.WriteSector size = 0
 begunLeft job.ReadAddress size = 0
-begunLeft job.ReadTrack size = 2 * size - 1
 begunLeft job.WriteTrack size = 2 * size - 1
 
 -- a count goes down to 1, and with that it is over
@@ -92,7 +91,6 @@ module _ (o : Order) (mfm : Bool) (target : ℕ) (r : Ring) (tr : ℕ) where
   leftOf (Hunt pulses run) = 0
   leftOf (Address passed crc track) = suc (5 - passed)
   leftOf Await = cond (eqb (r .position) 0) (r .length) (toEnd r + r .length)
-  leftOf TrackRead = toEnd r
   leftOf (Preamble left passed) = upTo (markPlace mfm) passed + down left
   leftOf (Put left crc) = down left
   leftOf (Format crc) = toEnd r
@@ -103,7 +101,6 @@ module _ (o : Order) (mfm : Bool) (target : ℕ) (r : Ring) (tr : ℕ) where
 -- a job that begins something of a known length after the settling
 pub data Plain : Job → Type 0 where
   verifies : Plain job.Verify
-  reads-track : Plain job.ReadTrack
   writes-track : Plain job.WriteTrack
 
 -- a CRC register holds a word, and a record is the only one
@@ -118,8 +115,7 @@ Counted o (Window left passed run) = isMultiple (o .byte) ≡ false
 Counted o (Data left crc deleted) = isMultiple (o .byte) ≡ false
 Counted o (Hunt pulses run) = ⊥
 Counted o (Address passed crc track) = Unit {0}
-Counted o Await = Plain (jobOf (o .command)) × (jobOf (o .command) ≡ job.Verify → ⊥)
-Counted o TrackRead = Unit {0}
+Counted o Await = Unit {0}
 Counted o (Preamble left passed) = isMultiple (o .byte) ≡ false
 Counted o (Put left crc) = (isMultiple (o .byte) ≡ false) × (crc < 65536)
 Counted o (Format crc) = crc < 65536
@@ -138,7 +134,6 @@ seeks (Data left crc deleted) = false
 seeks (Hunt pulses run) = false
 seeks (Address passed crc track) = false
 seeks Await = false
-seeks TrackRead = false
 seeks (Preamble left passed) = false
 seeks (Put left crc) = false
 seeks (Format crc) = false

@@ -1,4 +1,4 @@
--- Types II and III: a command ends in the load, or it settles and begins. A track command ends then. Assumes nothing.
+-- Types II and III: a command ends in the load, or it settles and begins. A Write Track ends then. Assumes nothing.
 use mathlib.Core.Path.{_≡_, refl, ap, _∙_, subst}
 use mathlib.Core.Bool.{Bool, true, false, cond}
 use Prim.Native.Nat.{ℕ, _+_}
@@ -48,7 +48,7 @@ module _ {s : Scene} {command : Command} (x : Stays s command) where
       earlier (s .host) (loaded s) 0 (settling s) last (omega arith)
       (λ k l below. settling-lasts lowWorking k (omega arith) .busy)
 
-  -- a track command
+  -- a job of a known length: a Write Track
   pub track-over :
       Plain (jobOf command) → Over (s .host) (loaded s) 0 (settling s + begunLeft (jobOf command) (length (s .row)))
   unfolding orderOf leftOf Counted seeks at

@@ -11,7 +11,7 @@ use Rattle.command.specs.Bits.{isMultiple, verifiesTrack}
 use Rattle.command.specs.Commands.{decodedOf}
 use Rattle.command.specs.Times.{stepTimeOf, settleTimeOf}
 use Rattle.command.specs.declared.Command.{Command}
-use Rattle.command.specs.declared.Command.the-variants.{Restore, Seek, Step, StepIn, StepOut, ReadSector, WriteSector, ReadAddress, ReadTrack, WriteTrack, ForceInterrupt}
+use Rattle.command.specs.declared.Command.the-variants.{Restore, Seek, Step, StepIn, StepOut, ReadSector, WriteSector, ReadAddress, WriteTrack, ForceInterrupt}
 use Rattle.command.specs.declared.Decoded.the-variants.{Taken}
 use Rattle.accepting.specs.Accepting.{endsAtOnce}
 use Rattle.wd.specs.Loads.{loadRegister}
@@ -73,8 +73,8 @@ verifying s = cond (verifiesTrack (s .byte)) (settleTimeOf (s .machine .mfm) + f
 abbrev pub worked : Scene → Command → ℕ → ℕ
 worked s command most = cond (endsAtOnce command (s .lines)) 0 (settling s + most)
 
--- The byte times of each command, at most: a Type I command decides in its first, and each step takes a step time; a track
--- command that begins at cell 1 waits L - 1 byte times for its pulse and then moves L cells; Force Interrupt takes none.
+-- The byte times of each command, at most: a Type I command decides in its first, and each step takes a step time; a Write
+-- Track that begins at cell 1 waits L - 1 byte times for its pulse and then lays L cells; Force Interrupt takes none.
 unfoldable pub boundOf : Scene → Command → ℕ
 boundOf s Restore = 1 + 255 * stepping s + verifying s
 boundOf s Seek = 1 + apart (s .machine .regs .tr) (s .machine .regs .dr) * stepping s + verifying s
@@ -84,7 +84,6 @@ boundOf s StepOut = 1 + stepping s + verifying s
 boundOf s ReadSector = worked s ReadSector (fiveRounds s)
 boundOf s WriteSector = worked s WriteSector (fiveRounds s)
 boundOf s ReadAddress = worked s ReadAddress (fiveRounds s)
-boundOf s ReadTrack = worked s ReadTrack (2 * length (s .row) - 1)
 boundOf s WriteTrack = worked s WriteTrack (2 * length (s .row) - 1)
 boundOf s ForceInterrupt = 0
 

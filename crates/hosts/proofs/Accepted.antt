@@ -11,7 +11,7 @@ use Rattle.command.specs.Commands.{classOf, decodedOf, isRestore}
 use Rattle.command.specs.Orders.{orderOf}
 use Rattle.command.specs.Times.{settleTimeOf}
 use Rattle.command.specs.declared.Command.{Command}
-use Rattle.command.specs.declared.Command.the-variants.{Restore, Seek, Step, StepIn, StepOut, ReadSector, WriteSector, ReadAddress, ReadTrack, WriteTrack, ForceInterrupt}
+use Rattle.command.specs.declared.Command.the-variants.{Restore, Seek, Step, StepIn, StepOut, ReadSector, WriteSector, ReadAddress, WriteTrack, ForceInterrupt}
 use Rattle.command.specs.declared.Decoded.the-variants.{Taken}
 use Rattle.command.specs.declared.Class.{Class}
 use Rattle.command.specs.declared.Class.the-variants.{Works}
@@ -70,7 +70,6 @@ no-other-restores StepOut other = refl
 no-other-restores ReadSector other = refl
 no-other-restores WriteSector other = refl
 no-other-restores ReadAddress other = refl
-no-other-restores ReadTrack other = refl
 no-other-restores WriteTrack other = refl
 no-other-restores ForceInterrupt other = refl
 

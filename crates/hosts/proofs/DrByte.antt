@@ -44,7 +44,6 @@ module _ (o : Order) (s : Seen) (p : Parts) (low : Holds p) where
   passed Nothing x = low
   passed (Deliver b) (Passes.data-byte e) = omega arith
   passed (Deliver b) (Passes.address-byte e) = omega arith
-  passed (Deliver b) Passes.track-byte = omega arith
   passed (Named b track bad) Passes.address-over = omega arith
   passed (Matched bad) x = low
   passed NotFound x = low

@@ -13,7 +13,7 @@ use Rattle.activity.specs.Acts.{pass}
 use Rattle.activity.specs.Limits.{busyIn}
 use Rattle.activity.specs.declared.Act.{Act}
 use Rattle.activity.specs.declared.Activity.{Activity}
-use Rattle.activity.specs.declared.Activity.the-variants.{Idle, Seek, Pulse, Stop, Settle, Search, Window, Data, Hunt, Address, Await, TrackRead, Preamble, Put, Format, FormatCrc}
+use Rattle.activity.specs.declared.Activity.the-variants.{Idle, Seek, Pulse, Stop, Settle, Search, Window, Data, Hunt, Address, Await, Preamble, Put, Format, FormatCrc}
 use Rattle.activity.specs.declared.Deed.the-variants.{Nothing}
 use Rattle.act.specs.Turns.{begunActivity, activityAct, actOf}
 use Rattle.registers.specs.declared.Lines.{Lines}
@@ -67,7 +67,6 @@ is-idle (Data left crc deleted) e = never (cc)
 is-idle (Hunt pulses run) e = never (cc)
 is-idle (Address passed crc track) e = never (cc)
 is-idle Await e = never (cc)
-is-idle TrackRead e = never (cc)
 is-idle (Preamble left passed) e = never (cc)
 is-idle (Put left crc) e = never (cc)
 is-idle (Format crc) e = never (cc)

@@ -10,7 +10,7 @@ use Rattle.common.proofs.Cases.{by-cond, never}
 use Rattle.command.specs.Bits.{settlesFirst}
 use Rattle.command.specs.Commands.{classOf, decodedOf}
 use Rattle.command.specs.declared.Command.{Command}
-use Rattle.command.specs.declared.Command.the-variants.{Restore, Seek, Step, StepIn, StepOut, ReadSector, WriteSector, ReadAddress, ReadTrack, WriteTrack, ForceInterrupt}
+use Rattle.command.specs.declared.Command.the-variants.{Restore, Seek, Step, StepIn, StepOut, ReadSector, WriteSector, ReadAddress, WriteTrack, ForceInterrupt}
 use Rattle.command.specs.declared.Decoded.the-variants.{Taken}
 use Rattle.command.specs.declared.Class.{Class}
 use Rattle.command.specs.declared.Class.the-variants.{Seeks, Steps, Works, Forces}
@@ -86,7 +86,6 @@ forces StepOut e = never (cc)
 forces ReadSector e = never (cc)
 forces WriteSector e = never (cc)
 forces ReadAddress e = never (cc)
-forces ReadTrack e = never (cc)
 forces WriteTrack e = never (cc)
 forces ForceInterrupt e = refl
 

@@ -20,7 +20,7 @@ use Rattle.hosts.specs.Scenes.{Scene, loaded}
 use Rattle.hosts.specs.Bytes.{deedAt, hands}
 use Rattle.hosts.proofs.ByteTimes.{next-drq, next-flags}
 use Rattle.hosts.proofs.ReadDeeds.{or-true-of}
-use Rattle.lost_data.specs.LostData.{lostData, asksByte, ReadCommand, read-sector, read-address, read-track, AcceptedAlone, ByteLost}
+use Rattle.lost_data.specs.LostData.{lostData, asksByte, ReadCommand, read-sector, read-address, AcceptedAlone, ByteLost}
 use Rattle.lost_data.proofs.Begun.{first-drq, first-valid}
 use Rattle.lost_data.proofs.Exactly.{lostAt, lost-exactly}
 use Rattle.lost_data.proofs.Since.{raises, drqAt, drqFound, Since, finds-on, drq-since}
@@ -63,7 +63,6 @@ asks-later : {command : Command} (ends : Bool) → ReadCommand command → (asks
 unfolding asksFirst
 asks-later ends read-sector = refl
 asks-later ends read-address = refl
-asks-later ends read-track = refl
 
 module _ {s : Scene} {command : Command} {n : ℕ} (read : ReadCommand command) (g : AcceptedAlone s command n) where
   abbrev h : Host

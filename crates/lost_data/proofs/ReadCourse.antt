@@ -1,6 +1,6 @@
 -- What a read can be doing, and its deeds. Assumes nothing.
-use mathlib.Core.Path.{_≡_, refl, sym, _∙_}
-use mathlib.Core.Bool.{Bool, false, true≢false, _&&_}
+use mathlib.Core.Path.{_≡_, refl}
+use mathlib.Core.Bool.{Bool, _&&_}
 use Prim.Native.Nat.{ℕ}
 use lib.Dec.{eqb}
 use Rattle.common.proofs.Cases.{by-cond}
@@ -12,7 +12,7 @@ use Rattle.command.specs.declared.Job.the-variants as job
 use Rattle.activity.specs.declared.Seen.{Seen}
 use Rattle.activity.specs.declared.Act.{Act}
 use Rattle.activity.specs.declared.Activity.{Activity}
-use Rattle.activity.specs.declared.Activity.the-variants.{Idle, Settle, Search, Window, Data, Hunt, Address, Await, TrackRead}
+use Rattle.activity.specs.declared.Activity.the-variants.{Idle, Settle, Search, Window, Data, Hunt, Address}
 use Rattle.activity.specs.declared.Deed.{Deed}
 use Rattle.activity.specs.declared.Deed.the-variants.{Nothing, Deliver, Named, Matched, NotFound, Record}
 use Rattle.search.specs.Search.{afterMatch}
@@ -22,22 +22,16 @@ use Rattle.act.proofs.Acts.{Passes, Acts, turns}
 pub data ReadJob : Job → Type 0 where
   sector : ReadJob job.ReadSector
   address : ReadJob job.ReadAddress
-  track : ReadJob job.ReadTrack
 
--- the activities of each; one that awaits its first pulse does so under a condition
-pub data InRead (Awaits : Type 0) : Job → Activity → Type 0 where
-  over : {j : Job} → InRead Awaits j Idle
-  settles : {j : Job} {left : ℕ} → ReadJob j → InRead Awaits j (Settle left)
-  searches : {pulses : ℕ} {scan : Scan} → InRead Awaits job.ReadSector (Search pulses scan)
-  in-window : {left passed run : ℕ} → InRead Awaits job.ReadSector (Window left passed run)
-  in-data : {left crc : ℕ} {deleted : Bool} → InRead Awaits job.ReadSector (Data left crc deleted)
-  hunts : {pulses run : ℕ} → InRead Awaits job.ReadAddress (Hunt pulses run)
-  in-address : {passed crc track : ℕ} → InRead Awaits job.ReadAddress (Address passed crc track)
-  awaits : Awaits → InRead Awaits job.ReadTrack Await
-  in-track : InRead Awaits job.ReadTrack TrackRead
-
-abbrev pub Reading : Job → Activity → Type 0
-Reading = InRead (Unit {0})
+-- the activities of each
+pub data Reading : Job → Activity → Type 0 where
+  over : {j : Job} → Reading j Idle
+  settles : {j : Job} {left : ℕ} → ReadJob j → Reading j (Settle left)
+  searches : {pulses : ℕ} {scan : Scan} → Reading job.ReadSector (Search pulses scan)
+  in-window : {left passed run : ℕ} → Reading job.ReadSector (Window left passed run)
+  in-data : {left crc : ℕ} {deleted : Bool} → Reading job.ReadSector (Data left crc deleted)
+  hunts : {pulses run : ℕ} → Reading job.ReadAddress (Hunt pulses run)
+  in-address : {passed crc track : ℕ} → Reading job.ReadAddress (Address passed crc track)
 
 -- the deeds
 pub data ReadDeed : Deed → Type 0 where
@@ -54,30 +48,23 @@ pub record ReadAct (j : Job) (act : Act) : Type 0 where
   pub deed : ReadDeed (act .deed)
 
 module _ (o : Order) (s : Seen) where
-  -- what acts: a pulse that is awaited has come
-  abbrev Acting : Job → Activity → Type 0
-  Acting = InRead (s .index ≡ false)
-
-  begins : {j : Job} → ReadJob j → Acting j (jobBegun s j)
+  begins : {j : Job} → ReadJob j → Reading j (jobBegun s j)
   unfolding jobBegun
   begins sector = searches
   begins address = hunts
-  begins track = by-cond (Acting job.ReadTrack) (s .index) (λ e. in-track) (λ e. awaits e)
 
-  begun : {j : Job} {a : Activity} → jobOf (o .command) ≡ j → Reading j a → Acting j (begunActivity o s a)
+  begun : {j : Job} {a : Activity} → jobOf (o .command) ≡ j → Reading j a → Reading j (begunActivity o s a)
   unfolding begunActivity
   begun is over = over
   begun is (settles {j} {left} read) =
-      rw is (by-cond (Acting j) (eqb left 0 && s .hlt) (λ e. begins read) (λ e. settles read))
+      rw is (by-cond (Reading j) (eqb left 0 && s .hlt) (λ e. begins read) (λ e. settles read))
   begun is searches = searches
   begun is in-window = in-window
   begun is in-data = in-data
   begun is hunts = hunts
   begun is in-address = in-address
-  begun is (awaits any) = rw is (by-cond (Acting job.ReadTrack) (s .index) (λ e. begins track) (λ e. awaits e))
-  begun is in-track = in-track
 
-  acted : {j : Job} {a : Activity} {act : Act} → jobOf (o .command) ≡ j → Acting j a → Acts o s a act → ReadAct j act
+  acted : {j : Job} {a : Activity} {act : Act} → jobOf (o .command) ≡ j → Reading j a → Acts o s a act → ReadAct j act
   unfolding afterMatch
   acted is over (Acts.passes Passes.idles) = record { next = over; deed = nothing }
   acted is (settles read) (Acts.passes Passes.settles) = record { next = settles read; deed = nothing }
@@ -97,10 +84,6 @@ module _ (o : Order) (s : Seen) where
   acted is hunts (Acts.passes Passes.id-met) = record { next = in-address; deed = nothing }
   acted is in-address (Acts.passes (Passes.address-byte more)) = record { next = in-address; deed = delivers }
   acted is in-address (Acts.passes Passes.address-over) = record { next = over; deed = names }
-  acted is (awaits off) (Acts.passes (Passes.await-goes-on e)) = record { next = awaits tt; deed = nothing }
-  acted is (awaits off) (Acts.passes (Passes.await-fails on)) = absurd (true≢false (sym on ∙ off))
-  acted is in-track (Acts.passes Passes.track-byte) =
-      record { next = by-cond (Reading job.ReadTrack) (s .last) (λ e. over) (λ e. in-track); deed = delivers }
 
   pub read-act : {a : Activity} → Reading (jobOf (o .command)) a → ReadAct (jobOf (o .command)) (actOf o s a)
   read-act {a} reading = acted refl (begun refl reading) (turns o s a)

@@ -11,10 +11,10 @@ use Rattle.hosts.specs.Scenes.{Scene, loaded}
 use Rattle.hosts.specs.Bytes.{deedAt}
 use Rattle.hosts.proofs.Views.{DoneAt}
 use Rattle.hosts.proofs.ByteTimes.{finds, done-or-not, deed-done, deed-none}
-use Rattle.lost_data.specs.LostData.{ReadCommand, read-sector, read-address, read-track, AcceptedAlone}
+use Rattle.lost_data.specs.LostData.{ReadCommand, read-sector, read-address, AcceptedAlone}
 use Rattle.lost_data.proofs.Begun.{AtFirst, first-order, first-activity}
 use Rattle.lost_data.proofs.Kept.{kept-found}
-use Rattle.lost_data.proofs.ReadCourse.{ReadJob, InRead, Reading, ReadDeed, nothing, read-act}
+use Rattle.lost_data.proofs.ReadCourse.{ReadJob, Reading, ReadDeed, nothing, read-act}
 
 -- ---- where it begins
 
@@ -22,17 +22,15 @@ pub reads-works : {command : Command} → ReadCommand command → classOf comman
 unfolding classOf
 reads-works read-sector = refl
 reads-works read-address = refl
-reads-works read-track = refl
 
 read-job : {command : Command} → ReadCommand command → ReadJob (jobOf command)
 unfolding jobOf
 read-job read-sector = ReadJob.sector
 read-job read-address = ReadJob.address
-read-job read-track = ReadJob.track
 
 begins : {command : Command} {a : Activity} → ReadCommand command → AtFirst a → Reading (jobOf command) a
-begins read AtFirst.over = InRead.over
-begins read AtFirst.settles = InRead.settles (read-job read)
+begins read AtFirst.over = Reading.over
+begins read AtFirst.settles = Reading.settles (read-job read)
 
 -- what a read is doing, by its order
 abbrev ReadBy : Order → Activity → Type 0

@@ -22,7 +22,7 @@ use Rattle.activity.specs.declared.Deed.the-variants.{Nothing, Matched, NotFoun
 use Rattle.search.specs.Search.{afterMatch, afterRecord}
 use Rattle.writing.specs.Writing.{markPlace, preambleNext, preambleDeed, preambleTurn, putCell}
 use Rattle.formatting.specs.Formatting.{untilLast, presets, laidCell, formatCell, formatCrcCell}
-use Rattle.act.specs.Turns.{jobBegun, begunActivity, settleTurn, awaitTurn, activityAct, actOf}
+use Rattle.act.specs.Turns.{formatBegun, jobBegun, begunActivity, settleTurn, awaitTurn, activityAct, actOf}
 use Rattle.act.proofs.Acts.{Passes, Acts, acts}
 
 pub data WriteJob : Job → Type 0 where
@@ -68,10 +68,9 @@ module _ (o : Order) (s : Seen) where
   abbrev Acting : Job → Activity → Type 0
   Acting = InWrite (s .index ≡ true → s .drq ≡ true)
 
-  begins : {j : Job} → WriteJob j → Acting j (jobBegun s j)
-  unfolding jobBegun
-  begins sector = searches
-  begins track = by (s .index) (s .drq)
+  opens : Acting job.WriteTrack (formatBegun s)
+  unfolding formatBegun
+  opens = by (s .index) (s .drq)
     where
       by :
           (index drq : Bool)
@@ -79,6 +78,11 @@ module _ (o : Order) (s : Seen) where
       by true true = awaits (λ e. refl)
       by true false = formats
       by false drq = awaits (λ e. absurd (true≢false (sym e)))
+
+  begins : {j : Job} → WriteJob j → Acting j (jobBegun s j)
+  unfolding jobBegun
+  begins sector = searches
+  begins track = opens
 
   begun : {j : Job} {a : Activity} → jobOf (o .command) ≡ j → Writing j a → Acting j (begunActivity o s a)
   unfolding begunActivity
@@ -88,9 +92,7 @@ module _ (o : Order) (s : Seen) where
   begun is searches = searches
   begun is in-preamble = in-preamble
   begun is puts = puts
-  begun is (awaits any) =
-      rw is
-      (by-cond (Acting job.WriteTrack) (s .index) (λ e. begins track) (λ e. awaits (λ on. absurd (true≢false (sym on ∙ e)))))
+  begun is (awaits any) = opens
   begun is formats = formats
   begun is formats-crc = formats-crc
 

@@ -11,7 +11,7 @@ use lib.ListN.{getD}
 use Rattle.common.specs.Bits.{bitOf}
 use Rattle.command.specs.Commands.{decodedOf}
 use Rattle.command.specs.declared.Command.{Command}
-use Rattle.command.specs.declared.Command.the-variants.{ReadSector, WriteSector, ReadAddress, ReadTrack, WriteTrack}
+use Rattle.command.specs.declared.Command.the-variants.{ReadSector, WriteSector, ReadAddress, WriteTrack}
 use Rattle.command.specs.declared.Decoded.the-variants.{Taken}
 use Rattle.activity.specs.Limits.{busyIn}
 use Rattle.activity.specs.declared.Deed.{Deed}
@@ -42,11 +42,10 @@ lostData m l = bitOf (readRegister m l 0 .byte) 2
 
 -- ---- the commands
 
--- Read Sector with m or without, Read Address, Read Track
+-- Read Sector with m or without, Read Address
 pub data ReadCommand : Command → Type 0 where
   read-sector : ReadCommand ReadSector
   read-address : ReadCommand ReadAddress
-  read-track : ReadCommand ReadTrack
 
 -- Write Sector with m or without, Write Track
 pub data WriteCommand : Command → Type 0 where

@@ -22,7 +22,7 @@ use Rattle.activity.specs.Acts.{takenOf}
 use Rattle.activity.specs.Limits.{busyIn, scanWithin, countsWithin}
 use Rattle.stepping.specs.Stepping.{stopAct, trackAfter, stepAct, seekDecision, seekTurn, pulseTurn, stopTurn}
 use Rattle.search.specs.Search.{pulsesSeen, sideMatches, sectorMatches, matchesFor, afterMatch, idFound, searchStep, searchCell, afterRecord}
-use Rattle.reading.specs.Reading.{windowMissed, windowStep, windowCell, dataCell, addressBegun, huntStep, huntCell, addressTrack, addressCell, trackCell}
+use Rattle.reading.specs.Reading.{windowMissed, windowStep, windowCell, dataCell, addressBegun, huntStep, huntCell, addressTrack, addressCell}
 use Rattle.writing.specs.Writing.{lastKept, lastZero, markPlace, markCell, preambleCell, preambleNext, preambleDeed, preambleTurn, putCell}
 use Rattle.act.specs.Turns.{jobBegun, begunActivity, settleTurn, activityAct, actOf}
 use Rattle.activity.specs.declared.Activity.the-variants.{Search, Window, Hunt, Preamble}
@@ -128,7 +128,7 @@ unfolding crcBit putting seeking stopping settling searching scanning hearing aw
     dataMarkIn dataMarkStep idBegun pushedOf wholeOf idByteStep runIn idCellStep idMarkStep idStep bitOf updatesTrack loadsHead verifiesTrack isMultiple settlesFirst sideOf sideAsked ibmLengths markWritten isRestore decodedOf decodedByBoth classOf jobOf
     inwardOf orderOf sizeOf fieldSize stepTimeOf settleTimeOf busyIn scanWithin countsWithin stopAct trackAfter stepAct seekDecision seekTurn
     pulseTurn stopTurn pulsesSeen sideMatches sectorMatches matchesFor afterMatch idFound searchStep searchCell windowOf windowMissed windowStep
-    windowCell afterRecord dataCell addressBegun huntStep huntCell addressTrack addressCell trackCell lastKept lastZero markPlace
+    windowCell afterRecord dataCell addressBegun huntStep huntCell addressTrack addressCell lastKept lastZero markPlace
     markCell preambleCell preambleNext preambleDeed preambleTurn takenOf putCell jobBegun begunActivity
     settleTurn activityAct actOf lengthWithin ringWithin validOf freshMachine powerOn guarded loadRefusal loadRegs loadWires
     writes heldBy asksFirst beginRegs beginWires forcedFlags beginFlags beginHead conditionsFor worksFrom beginActivity

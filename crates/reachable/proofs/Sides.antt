@@ -66,7 +66,7 @@ worksIf NoCommand = true
 type-two-three : (b : ℕ) → TypeTwoOrThree b → worksIf (decodedOf Wd1797 b) ≡ true
 unfolding worksIf isWork decodedOf decodedByBoth decodedWithU classOf
 type-two-three b (inl (low, high)) = sym (range (λ k. worksIf (decodedOf Wd1797 k)) {x = b} 0x80 0x50 refl low (omega arith))
-type-two-three b (inr (low, high)) = sym (range (λ k. worksIf (decodedOf Wd1797 k)) {x = b} 0xE0 0x20 refl low (omega arith))
+type-two-three b (inr (low, high)) = sym (range (λ k. worksIf (decodedOf Wd1797 k)) {x = b} 0xF0 0x10 refl low (omega arith))
 
 work-sets : (sso : Bool) (b : ℕ) (class : Class) → isWork class ≡ true → beginSide sso Wd1797 b class ≡ bitOf b 1
 unfolding isWork beginSide selectsSide

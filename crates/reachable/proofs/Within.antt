@@ -10,7 +10,7 @@ use Rattle.common.proofs.Cases.{both, all}
 use Rattle.scan.specs.declared.Scan.the-variants.{Gap, Field}
 use Rattle.activity.specs.Limits.{scanWithin, countsWithin}
 use Rattle.activity.specs.declared.Activity.{Activity}
-use Rattle.activity.specs.declared.Activity.the-variants.{Idle, Seek, Pulse, Stop, Settle, Search, Window, Data, Hunt, Address, Await, TrackRead, Preamble, Put, Format, FormatCrc}
+use Rattle.activity.specs.declared.Activity.the-variants.{Idle, Seek, Pulse, Stop, Settle, Search, Window, Data, Hunt, Address, Await, Preamble, Put, Format, FormatCrc}
 use Rattle.registers.specs.Rings.{ringWithin}
 use Rattle.wd.specs.Machines.{validOf}
 use Rattle.wd.specs.declared.Machine.{Machine}
@@ -70,7 +70,6 @@ each-within (Hunt pulses run) c =
     all (le-leb pulses 4 (c .hunt-pulses pulses (run, refl))) (le-leb run 3 (c .hunt-run run (pulses, refl)))
 each-within (Address passed crc track) c = le-leb passed 5 (c .address-passed passed (crc, track, refl))
 each-within Await c = refl
-each-within TrackRead c = refl
 each-within (Preamble left passed) c =
     all (le-leb left 1027 (c .preamble-left left (passed, refl)))
     (le-leb passed 37 (c .preamble-passed passed (left, refl)))

@@ -15,7 +15,7 @@ use Rattle.reachable.specs.Growth.{Grown}
 
 -- the bytes of Types II and III
 abbrev pub TypeTwoOrThree : ℕ → Type 0
-TypeTwoOrThree b = ((0x80 ≤ b) × (b ≤ 0xCF)) ⊎ ((0xE0 ≤ b) × (b ≤ 0xFF))
+TypeTwoOrThree b = ((0x80 ≤ b) × (b ≤ 0xCF)) ⊎ ((0xF0 ≤ b) × (b ≤ 0xFF))
 
 -- the bytes of Type I, and Force Interrupt's
 abbrev pub TypeOneOrFour : ℕ → Type 0

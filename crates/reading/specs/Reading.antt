@@ -1,4 +1,4 @@
--- Read Sector after its ID, Read Address and Read Track: document 01, "Moving bytes", and request b. Assumes nothing.
+-- Read Sector after its ID, and Read Address: document 01, "Moving bytes", and request b. Assumes nothing.
 use mathlib.Core.Bool.{Bool, false, cond, not}
 use Prim.Native.Nat.{ℕ, _+_, _-_}
 use lib.Dec.{ltb, leb, eqb}
@@ -13,7 +13,7 @@ use Rattle.activity.specs.Acts.{pass}
 use Rattle.activity.specs.declared.Seen.{Seen}
 use Rattle.activity.specs.declared.Act.{Act}
 use Rattle.activity.specs.declared.Activity.{Activity}
-use Rattle.activity.specs.declared.Activity.the-variants.{Idle, Window, Data, Hunt, Address, TrackRead}
+use Rattle.activity.specs.declared.Activity.the-variants.{Idle, Window, Data, Hunt, Address}
 use Rattle.activity.specs.declared.Deed.the-variants.{Nothing, Deliver, Named, NotFound, Record}
 use Rattle.search.specs.Search.{pulsesSeen, afterRecord}
 
@@ -81,9 +81,3 @@ addressCell s passed crc track =
     (pass s
     (Address (passed + 1) (crcByte crc (byteOf (s .cell))) (addressTrack passed (byteOf (s .cell)) track))
     (Deliver (byteOf (s .cell))))
-
--- ---- Read Track
-
--- "Cells 0 to L - 1 from the first index pulse, as data bytes go; the last ends it."
-unfoldable pub trackCell : Seen → Act
-trackCell s = pass s (cond (s .last) Idle TrackRead) (Deliver (byteOf (s .cell)))

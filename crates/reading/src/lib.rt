@@ -1,6 +1,6 @@
-// Read Sector after its ID, Read Address and Read Track.
+// Read Sector after its ID, and Read Address.
 ghost use mathlib.Core.Path.{_≡_};
-ghost use Rattle.reading.specs.Reading.{windowMissed, windowStep, windowCell, recordFollows, dataCell, addressBegun, huntStep, huntCell, addressTrack, addressCell, trackCell};
+ghost use Rattle.reading.specs.Reading.{windowMissed, windowStep, windowCell, recordFollows, dataCell, addressBegun, huntStep, huntCell, addressTrack, addressCell};
 use activity::Act;
 use activity::Activity;
 use activity::Deed;
@@ -149,25 +149,6 @@ pub fn address(s: Seen, passed: u8, crc: u16, track: u8) -> Act
     }
     Act {
         next: Activity::Address(passed + 1, next, track_of(passed, byte, track)),
-        deed: Deed::Deliver(byte),
-        cell: s.cell,
-    }
-}
-
-// A cell of a Read Track.
-pub fn track_read(s: Seen) -> Act
-    ensures { λ r. ⌜ r ≡ trackCell s ⌝ }
-{
-    let byte = (s.cell % 256) as u8;
-    if s.last {
-        return Act {
-            next: Activity::Idle,
-            deed: Deed::Deliver(byte),
-            cell: s.cell,
-        };
-    }
-    Act {
-        next: Activity::TrackRead,
         deed: Deed::Deliver(byte),
         cell: s.cell,
     }

@@ -14,7 +14,7 @@ use Rattle.command.specs.Commands.{decodedByBoth, decodedWithU, takenOr, decode
 use Rattle.command.specs.declared.Chip.{Chip}
 use Rattle.command.specs.declared.Chip.the-variants.{Wd1793, Wd1797}
 use Rattle.command.specs.declared.Command.{Command}
-use Rattle.command.specs.declared.Command.the-variants.{Restore, Seek, Step, StepIn, StepOut, ReadSector, WriteSector, ReadAddress, ReadTrack, WriteTrack, ForceInterrupt}
+use Rattle.command.specs.declared.Command.the-variants.{Restore, Seek, Step, StepIn, StepOut, ReadSector, WriteSector, ReadAddress, WriteTrack, ForceInterrupt}
 use Rattle.command.specs.declared.Decoded.{Decoded}
 use Rattle.command.specs.declared.Decoded.the-variants as decoded
 use Rattle.registers.specs.Registers.{guarded}
@@ -168,9 +168,8 @@ by-both b =
     (or-else ReadSector (within 0x80 0x9E b && eqb (b % 2) 0) even uneven
     (or-else WriteSector (within 0xA0 0xBF b) between outside
     (or-else ReadAddress (eqb b 0xC0 || eqb b 0xC4) one-of none-of
-    (or-else ReadTrack (eqb b 0xE0 || eqb b 0xE4) one-of none-of
     (or-else WriteTrack (eqb b 0xF0 || eqb b 0xF4) one-of none-of
-    (at-last ForceInterrupt (within 0xD0 0xDF b) between outside))))))))))
+    (at-last ForceInterrupt (within 0xD0 0xDF b) between outside)))))))))
   where
     even : (within 0x80 0x9E b && eqb (b % 2) 0) ≡ true → Between 0x80 0x9E b × (b % 2 ≡ 0)
     even e = let h = both (within 0x80 0x9E b) (eqb (b % 2) 0) e in (between (h .0), eqb-true _ _ (h .1))
@@ -178,14 +177,13 @@ by-both b =
     uneven : (within 0x80 0x9E b && eqb (b % 2) 0) ≡ false → Between 0x80 0x9E b × (b % 2 ≡ 0) → ⊥
     uneven e (row, half) = let h = all (inside row) (eq-eqb (b % 2) 0 half) in never (cc)
 
--- "C2, C6, E2, E6, F2, F6 become commands for this chip only"
+-- "C2, C6, .. F2, F6 become commands for this chip only"
 with-u : (chip : Chip) (b : ℕ) → Takes (TakenWithU chip b) (decodedWithU chip b)
 unfolding decodedWithU
 with-u Wd1793 b = refuses (λ none. none)
 with-u Wd1797 b =
     or-else ReadAddress (eqb b 0xC2 || eqb b 0xC6) one-of none-of
-    (or-else ReadTrack (eqb b 0xE2 || eqb b 0xE6) one-of none-of
-    (at-last WriteTrack (eqb b 0xF2 || eqb b 0xF6) one-of none-of))
+    (at-last WriteTrack (eqb b 0xF2 || eqb b 0xF6) one-of none-of)
 
 either : {A B : Type 0} {d other : Decoded} → Takes A d → Takes B other → Takes (A ⊎ B) (takenOr other d)
 either (takes c x) rest = takes c (inl x)

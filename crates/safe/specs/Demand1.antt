@@ -62,7 +62,8 @@ pub record WhileBusy (m : Machine) (l : Lines) (number b : ℕ) : Type 0 where
   pub guarded : Guarded number b
 
 -- "00-0F Restore, 10-1F Seek, 20-3F Step, 40-5F Step-in, 60-7F Step-out, all Type I; even 80-9E Read Sector; A0-BF Write
--- Sector; C0, C4 Read Address; E0, E4 Read Track; F0, F4 Write Track; D0-DF Force Interrupt."
+-- Sector; C0, C4 Read Address; .. F0, F4 Write Track; D0-DF Force Interrupt." And "On both chips E0, E2, E4, E6 are no longer
+-- commands."
 abbrev pub TakenByBoth : ℕ → Type 0
 TakenByBoth b =
     Between 0x00 0x0F b
@@ -73,14 +74,13 @@ TakenByBoth b =
     ⊎ (Between 0x80 0x9E b × (b % 2 ≡ 0))
     ⊎ Between 0xA0 0xBF b
     ⊎ ((b ≡ 0xC0) ⊎ (b ≡ 0xC4))
-    ⊎ ((b ≡ 0xE0) ⊎ (b ≡ 0xE4))
     ⊎ ((b ≡ 0xF0) ⊎ (b ≡ 0xF4))
     ⊎ Between 0xD0 0xDF b
 
--- "so C2, C6, E2, E6, F2, F6 become commands for this chip only"
+-- "so C2, C6, .. F2, F6 become commands for this chip only"
 abbrev pub TakenWithU : Chip → ℕ → Type 0
 TakenWithU Wd1793 b = ⊥
-TakenWithU Wd1797 b = ((b ≡ 0xC2) ⊎ (b ≡ 0xC6)) ⊎ ((b ≡ 0xE2) ⊎ (b ≡ 0xE6)) ⊎ ((b ≡ 0xF2) ⊎ (b ≡ 0xF6))
+TakenWithU Wd1797 b = ((b ≡ 0xC2) ⊎ (b ≡ 0xC6)) ⊎ ((b ≡ 0xF2) ⊎ (b ≡ 0xF6))
 
 abbrev pub IsCommand : Chip → ℕ → Type 0
 IsCommand chip b = TakenByBoth b ⊎ TakenWithU chip b

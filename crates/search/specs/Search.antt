@@ -42,7 +42,6 @@ matchesFor o s id job.Verify = eqb (id .track) (s .tr)
 matchesFor o s id job.ReadSector = sectorMatches o s id
 matchesFor o s id job.WriteSector = sectorMatches o s id
 matchesFor o s id job.ReadAddress = false
-matchesFor o s id job.ReadTrack = false
 matchesFor o s id job.WriteTrack = false
 
 -- after a good match: a verify is over, a read waits for its data mark, of which no A1 has passed yet ("in MFM its three A1s
@@ -53,7 +52,6 @@ afterMatch ibm length job.Verify = Idle
 afterMatch ibm length job.ReadSector = Window (fieldSize ibm length + 2) 0 0
 afterMatch ibm length job.WriteSector = Preamble (fieldSize ibm length + 3) 0
 afterMatch ibm length job.ReadAddress = Idle
-afterMatch ibm length job.ReadTrack = Idle
 afterMatch ibm length job.WriteTrack = Idle
 
 -- a search with no part of an ID in hand: where it begins, and after a whole ID, its pulses counted on

@@ -48,7 +48,6 @@ fn matches(o: Order, s: Seen, id: Id, job: Job) -> bool
         Job::ReadSector => sector_matches(o, s, id),
         Job::WriteSector => sector_matches(o, s, id),
         Job::ReadAddress => false,
-        Job::ReadTrack => false,
         Job::WriteTrack => false,
     }
 }

@@ -5,11 +5,11 @@ use Prim.Native.Nat.{ℕ}
 use types.Run.{miss}
 use Rattle.activity.proofs.Arms.{Among}
 use Rattle.activity.specs.declared.Activity.{Activity}
-use Rattle.activity.specs.declared.Activity.the-variants.{Idle, Seek, Pulse, Stop, Settle, Search, Window, Data, Hunt, Address, Await, TrackRead, Preamble, Put, Format, FormatCrc}
+use Rattle.activity.specs.declared.Activity.the-variants.{Idle, Seek, Pulse, Stop, Settle, Search, Window, Data, Hunt, Address, Await, Preamble, Put, Format, FormatCrc}
 use Rattle.stretch.specs.Stretches.{nowhere, reachOf, activityAfter}
 
 abbrev without-wait : List ℕ
-without-wait = 0 ∷ 2 ∷ 5 ∷ 6 ∷ 7 ∷ 8 ∷ 9 ∷ 10 ∷ 11 ∷ 12 ∷ 13 ∷ 14 ∷ 15 ∷ []
+without-wait = 0 ∷ 2 ∷ 5 ∷ 6 ∷ 7 ∷ 8 ∷ 9 ∷ 10 ∷ 11 ∷ 12 ∷ 13 ∷ 14 ∷ []
 
 pub later-else : (passed : ℕ) (a : Activity) → Among without-wait a → a ≡ activityAfter passed a
 unfolding activityAfter
@@ -24,14 +24,13 @@ later-else passed (Data left crc deleted) h = refl
 later-else passed (Hunt pulses run) h = refl
 later-else passed (Address gone crc track) h = refl
 later-else passed Await h = refl
-later-else passed TrackRead h = refl
 later-else passed (Preamble left gone) h = refl
 later-else passed (Put left crc) h = refl
 later-else passed (Format crc) h = refl
 later-else passed (FormatCrc crc) h = refl
 
 abbrev without-reach : List ℕ
-without-reach = 2 ∷ 6 ∷ 7 ∷ 9 ∷ 11 ∷ 12 ∷ 13 ∷ 14 ∷ 15 ∷ []
+without-reach = 2 ∷ 6 ∷ 7 ∷ 9 ∷ 11 ∷ 12 ∷ 13 ∷ 14 ∷ []
 
 pub reach-else : (limit : ℕ) (a : Activity) → Among without-reach a → nowhere ≡ reachOf limit a
 unfolding reachOf
@@ -46,7 +45,6 @@ reach-else limit (Data left crc deleted) h = refl
 reach-else limit (Hunt pulses run) h = absurd (miss without-reach 8 tt h)
 reach-else limit (Address gone crc track) h = refl
 reach-else limit Await h = absurd (miss without-reach 10 tt h)
-reach-else limit TrackRead h = refl
 reach-else limit (Preamble left gone) h = refl
 reach-else limit (Put left crc) h = refl
 reach-else limit (Format crc) h = refl

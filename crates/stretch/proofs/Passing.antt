@@ -14,7 +14,7 @@ use Rattle.command.specs.declared.Order.{Order}
 use Rattle.activity.specs.Acts.{pass}
 use Rattle.activity.specs.declared.Seen.{Seen}
 use Rattle.activity.specs.declared.Activity.{Activity}
-use Rattle.activity.specs.declared.Activity.the-variants.{Idle, Seek, Pulse, Stop, Settle, Search, Window, Data, Hunt, Address, Await, TrackRead, Preamble, Put, Format, FormatCrc}
+use Rattle.activity.specs.declared.Activity.the-variants.{Idle, Seek, Pulse, Stop, Settle, Search, Window, Data, Hunt, Address, Await, Preamble, Put, Format, FormatCrc}
 use Rattle.activity.specs.declared.Deed.the-variants.{Nothing}
 use Rattle.act.specs.Turns.{actOf}
 use Rattle.registers.specs.declared.Ring.{Ring}
@@ -64,7 +64,6 @@ reach-modest limit Pulse = nowhere-modest limit
 reach-modest limit (Window left passed run) = nowhere-modest limit
 reach-modest limit (Data left crc deleted) = nowhere-modest limit
 reach-modest limit (Address passed crc track) = nowhere-modest limit
-reach-modest limit TrackRead = nowhere-modest limit
 reach-modest limit (Preamble left passed) = nowhere-modest limit
 reach-modest limit (Put left crc) = nowhere-modest limit
 reach-modest limit (Format crc) = nowhere-modest limit

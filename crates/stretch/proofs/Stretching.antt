@@ -18,12 +18,12 @@ use Rattle.activity.specs.Limits.{busyIn}
 use Rattle.activity.specs.declared.Act.{Act}
 use Rattle.activity.specs.declared.Seen.{Seen}
 use Rattle.activity.specs.declared.Activity.{Activity}
-use Rattle.activity.specs.declared.Activity.the-variants.{Idle, Seek, Pulse, Stop, Settle, Search, Window, Data, Hunt, Address, Await, TrackRead, Preamble, Put, Format, FormatCrc}
+use Rattle.activity.specs.declared.Activity.the-variants.{Idle, Seek, Pulse, Stop, Settle, Search, Window, Data, Hunt, Address, Await, Preamble, Put, Format, FormatCrc}
 use Rattle.activity.specs.declared.Deed.the-variants.{Nothing}
 use Rattle.stepping.specs.Stepping.{stopAct, seekDecision, seekTurn, stopTurn}
 use Rattle.search.specs.Search.{pulsesSeen, searchStep, searchCell}
 use Rattle.reading.specs.Reading.{huntStep, huntCell}
-use Rattle.act.specs.Turns.{begunActivity, settleTurn, awaitTurn, activityAct, actOf}
+use Rattle.act.specs.Turns.{formatBegun, begunActivity, settleTurn, awaitTurn, activityAct, actOf}
 use Rattle.stretch.specs.declared.Reach.{Reach}
 use Rattle.stretch.specs.Stretches.{leastOf, waitReach, emptyGap, searchReach, reachOf, activityAfter}
 
@@ -80,7 +80,7 @@ module _ (o : Order) (s : Seen) (none : s .index ≡ false) where
       let less : left - k - 1 ≡ left - suc k = omega arith in rw (lt-leb (left - k) 1 (omega arith), less) refl
 
   await-still : actOf o s Await ≡ pass s Await Nothing
-  unfolding actOf begunActivity activityAct awaitTurn
+  unfolding actOf begunActivity formatBegun activityAct awaitTurn
   await-still = rw none refl
 
   settle-still : (left k : ℕ) → k < left → actOf o s (Settle (left - k)) ≡ pass s (Settle (left - suc k)) Nothing
@@ -106,7 +106,6 @@ module _ (o : Order) (s : Seen) (none : s .index ≡ false) where
   act-still (Window left passed run) limit k h below = absurd (omega arith)
   act-still (Data left crc deleted) limit k h below = absurd (omega arith)
   act-still (Address passed crc track) limit k h below = absurd (omega arith)
-  act-still TrackRead limit k h below = absurd (omega arith)
   act-still (Preamble left passed) limit k h below = absurd (omega arith)
   act-still (Put left crc) limit k h below = absurd (omega arith)
   act-still (Format crc) limit k h below = absurd (omega arith)
@@ -126,7 +125,6 @@ busy-later k (Data left crc deleted) = refl
 busy-later k (Hunt pulses run) = refl
 busy-later k (Address passed crc track) = refl
 busy-later k Await = refl
-busy-later k TrackRead = refl
 busy-later k (Preamble left passed) = refl
 busy-later k (Put left crc) = refl
 busy-later k (Format crc) = refl
@@ -146,7 +144,6 @@ later-none (Data left crc deleted) = refl
 later-none (Hunt pulses run) = refl
 later-none (Address passed crc track) = refl
 later-none Await = refl
-later-none TrackRead = refl
 later-none (Preamble left passed) = refl
 later-none (Put left crc) = refl
 later-none (Format crc) = refl

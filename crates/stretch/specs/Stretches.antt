@@ -8,7 +8,7 @@ use lib.ListN.{length, getD}
 use Rattle.scan.specs.declared.Scan.{Scan}
 use Rattle.scan.specs.declared.Scan.the-variants.{Gap, Field}
 use Rattle.activity.specs.declared.Activity.{Activity}
-use Rattle.activity.specs.declared.Activity.the-variants.{Idle, Seek, Pulse, Stop, Settle, Search, Window, Data, Hunt, Address, Await, TrackRead, Preamble, Put, Format, FormatCrc}
+use Rattle.activity.specs.declared.Activity.the-variants.{Idle, Seek, Pulse, Stop, Settle, Search, Window, Data, Hunt, Address, Await, Preamble, Put, Format, FormatCrc}
 use Rattle.registers.specs.declared.Ring.{Ring}
 use Rattle.stretch.specs.declared.Reach.{Reach}
 
@@ -32,7 +32,7 @@ emptyGap (Field part) = false
 unfoldable pub searchReach : ℕ → ℕ → Scan → Reach
 searchReach limit pulses scan = cond (ltb pulses 5 && emptyGap scan) (record { most = limit; below = 256 }) nowhere
 
--- how far nothing happens, up to a limit: idle, in front of the first pulse of a track command, settling for as long as byte
+-- how far nothing happens, up to a limit: idle, in front of the first pulse of a Write Track, settling for as long as byte
 -- times are left, and between two steps up to the byte time that decides
 unfoldable pub reachOf : ℕ → Activity → Reach
 reachOf limit Idle = record { most = limit; below = 512 }
@@ -46,7 +46,6 @@ reachOf limit (Data left crc deleted) = nowhere
 reachOf limit (Hunt pulses run) = searchReach limit pulses (Gap run)
 reachOf limit (Address passed crc track) = nowhere
 reachOf limit Await = record { most = limit; below = 512 }
-reachOf limit TrackRead = nowhere
 reachOf limit (Preamble left passed) = nowhere
 reachOf limit (Put left crc) = nowhere
 reachOf limit (Format crc) = nowhere
@@ -65,7 +64,6 @@ activityAfter passed (Data left crc deleted) = Data left crc deleted
 activityAfter passed (Hunt pulses run) = Hunt pulses run
 activityAfter passed (Address gone crc track) = Address gone crc track
 activityAfter passed Await = Await
-activityAfter passed TrackRead = TrackRead
 activityAfter passed (Preamble left gone) = Preamble left gone
 activityAfter passed (Put left crc) = Put left crc
 activityAfter passed (Format crc) = Format crc

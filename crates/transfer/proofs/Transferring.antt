@@ -14,10 +14,10 @@ use Rattle.command.specs.declared.Order.{Order}
 use Rattle.activity.specs.Limits.{busyIn}
 use Rattle.activity.specs.declared.Seen.{Seen}
 use Rattle.activity.specs.declared.Activity.{Activity}
-use Rattle.activity.specs.declared.Activity.the-variants.{Idle, Seek, Pulse, Stop, Settle, Search, Window, Data, Hunt, Address, Await, TrackRead, Preamble, Put, Format, FormatCrc}
+use Rattle.activity.specs.declared.Activity.the-variants.{Idle, Seek, Pulse, Stop, Settle, Search, Window, Data, Hunt, Address, Await, Preamble, Put, Format, FormatCrc}
 use Rattle.activity.specs.declared.Deed.{Deed}
 use Rattle.activity.specs.declared.Deed.the-variants.{Deliver, Take}
-use Rattle.reading.specs.Reading.{dataCell, trackCell}
+use Rattle.reading.specs.Reading.{dataCell}
 use Rattle.activity.specs.Acts.{takenOf}
 use Rattle.writing.specs.Writing.{putCell}
 use Rattle.formatting.specs.Formatting.{untilLast, laidCell, laidCrc, formatCell}
@@ -27,12 +27,12 @@ use Rattle.effects.specs.Effects.{delivered, cellTaken, effectOf}
 use Rattle.effects.specs.declared.Parts.{Parts}
 use Rattle.transfer.specs.declared.Transfer.{Transfer}
 use Rattle.transfer.specs.declared.Transfer.the-variants.{Nothing, Byte}
-use Rattle.transfer.specs.Transfers.{readTransfer, writeTransfer, formatTransfer, trackTransfer, transferIn}
+use Rattle.transfer.specs.Transfers.{readTransfer, writeTransfer, formatTransfer, transferIn}
 
 -- ---- the arm `_` of the code
 
 abbrev keeping : List ℕ
-keeping = 0 ∷ 1 ∷ 2 ∷ 3 ∷ 4 ∷ 5 ∷ 6 ∷ 8 ∷ 9 ∷ 10 ∷ 12 ∷ 15 ∷ []
+keeping = 0 ∷ 1 ∷ 2 ∷ 3 ∷ 4 ∷ 5 ∷ 6 ∷ 8 ∷ 9 ∷ 10 ∷ 11 ∷ 14 ∷ []
 
 pub keeps : (s : Seen) (a : Activity) → Among keeping a → Nothing ≡ transferIn s a
 unfolding transferIn
@@ -47,10 +47,9 @@ keeps s (Data left crc deleted) h = absurd (miss keeping 7 tt h)
 keeps s (Hunt pulses run) h = refl
 keeps s (Address passed crc track) h = refl
 keeps s Await h = refl
-keeps s TrackRead h = absurd (miss keeping 11 tt h)
 keeps s (Preamble left passed) h = refl
-keeps s (Put left crc) h = absurd (miss keeping 13 tt h)
-keeps s (Format crc) h = absurd (miss keeping 14 tt h)
+keeps s (Put left crc) h = absurd (miss keeping 12 tt h)
+keeps s (Format crc) h = absurd (miss keeping 13 tt h)
 keeps s (FormatCrc crc) h = refl
 
 -- ---- what the byte time does
@@ -119,12 +118,6 @@ formatted-says o s crc =
     (rw (h .0, h .1) refl)
     refl)
 
-track-says : (o : Order) (s : Seen) → Says o s TrackRead (trackTransfer s)
-unfolding trackTransfer actOf begunActivity activityAct trackCell busyIn
-track-says o s =
-    by-cond (Says o s TrackRead) (s .last) (λ e. tt)
-    (λ e. delivers o s TrackRead TrackRead (byteOf (s .cell)) (s .cell) (rw e refl) refl)
-
 pub says : (o : Order) (s : Seen) (a : Activity) → Says o s a (transferIn s a)
 unfolding transferIn
 says o s Idle = tt
@@ -138,7 +131,6 @@ says o s (Data left crc deleted) = read-says o s left crc deleted
 says o s (Hunt pulses run) = tt
 says o s (Address passed crc track) = tt
 says o s Await = tt
-says o s TrackRead = track-says o s
 says o s (Preamble left passed) = tt
 says o s (Put left crc) = written-says o s left crc
 says o s (Format crc) = formatted-says o s crc

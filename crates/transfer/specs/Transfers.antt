@@ -7,7 +7,7 @@ use Rattle.crc.specs.Crc.{crcByte}
 use Rattle.scan.specs.Marks.{byteOf}
 use Rattle.activity.specs.declared.Seen.{Seen}
 use Rattle.activity.specs.declared.Activity.{Activity}
-use Rattle.activity.specs.declared.Activity.the-variants.{Idle, Seek, Pulse, Stop, Settle, Search, Window, Data, Hunt, Address, Await, TrackRead, Preamble, Put, Format, FormatCrc}
+use Rattle.activity.specs.declared.Activity.the-variants.{Idle, Seek, Pulse, Stop, Settle, Search, Window, Data, Hunt, Address, Await, Preamble, Put, Format, FormatCrc}
 use Rattle.activity.specs.Acts.{takenOf}
 use Rattle.formatting.specs.Formatting.{laidCell, laidCrc}
 use Rattle.transfer.specs.declared.Transfer.{Transfer}
@@ -30,10 +30,6 @@ formatTransfer s crc =
     cond (eqb (takenOf s) 0xF7 || s .last) Nothing
     (Byte (Format (laidCrc (s .mfm) crc (takenOf s))) (s .dr) (laidCell (s .mfm) (takenOf s)))
 
--- a cell of a Read Track, not the last
-unfoldable pub trackTransfer : Seen → Transfer
-trackTransfer s = cond (s .last) Nothing (Byte TrackRead (byteOf (s .cell)) (s .cell))
-
 unfoldable pub transferIn : Seen → Activity → Transfer
 transferIn s Idle = Nothing
 transferIn s (Seek left) = Nothing
@@ -46,7 +42,6 @@ transferIn s (Data left crc deleted) = readTransfer s left crc deleted
 transferIn s (Hunt pulses run) = Nothing
 transferIn s (Address passed crc track) = Nothing
 transferIn s Await = Nothing
-transferIn s TrackRead = trackTransfer s
 transferIn s (Preamble left passed) = Nothing
 transferIn s (Put left crc) = writeTransfer s left crc
 transferIn s (Format crc) = formatTransfer s crc

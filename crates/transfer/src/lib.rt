@@ -1,7 +1,7 @@
 // A byte transferred between host and track. DRQ is on after such a byte time, so it ends a run: a run that begins with one has
 // no other byte time, and costs a third of what the loop's byte time costs.
 ghost use mathlib.Core.Path.{_≡_};
-ghost use Rattle.transfer.specs.Transfers.{readTransfer, writeTransfer, formatTransfer, trackTransfer, transferIn};
+ghost use Rattle.transfer.specs.Transfers.{readTransfer, writeTransfer, formatTransfer, transferIn};
 use activity::Activity;
 use activity::Seen;
 
@@ -56,20 +56,6 @@ fn format(s: Seen, crc: u16) -> Transfer
     }
 }
 
-// A cell of a Read Track goes to DR. The last one ends it.
-fn read_track(s: Seen) -> Transfer
-    ensures { λ r. ⌜ r ≡ trackTransfer s ⌝ }
-{
-    if s.last {
-        return Transfer::Nothing;
-    }
-    Transfer::Byte {
-        next: Activity::TrackRead,
-        dr: (s.cell % 256) as u8,
-        cell: s.cell,
-    }
-}
-
 // What is transferred in this byte time.
 pub fn transferred(s: Seen, activity: Activity) -> Transfer
     ensures { λ r. ⌜ r ≡ transferIn s activity ⌝ }
@@ -78,7 +64,6 @@ pub fn transferred(s: Seen, activity: Activity) -> Transfer
         Activity::Data(left, crc, deleted) => read(s, left, crc, deleted),
         Activity::Put(left, crc) => write(s, left, crc),
         Activity::Format(crc) => format(s, crc),
-        Activity::TrackRead => read_track(s),
         _ => Transfer::Nothing,
     }
 }

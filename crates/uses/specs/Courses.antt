@@ -137,14 +137,11 @@ pub record SingleWrite (b : ℕ) : Type 0 where
   pub last : b ≤ 0xBF
   pub single : bitOf b 4 ≡ false
 
--- any of the commands that read: "even 80-9E Read Sector; .. C0, C4 Read Address; E0, E4 Read Track"; "C2, C6, E2, E6, F2, F6 become
--- commands for this chip only"
+-- any of the commands that read: "even 80-9E Read Sector; .. C0, C4 Read Address"; "C2, C6, .. F2, F6 become commands for this chip only"
 pub data ReadByte (chip : Chip) (b : ℕ) : Type 0 where
   read-sector : 0x80 ≤ b → b ≤ 0x9E → b % 2 ≡ 0 → ReadByte chip b
   read-address : (b ≡ 0xC0) ⊎ (b ≡ 0xC4) → ReadByte chip b
-  read-track : (b ≡ 0xE0) ⊎ (b ≡ 0xE4) → ReadByte chip b
   read-address-with-u : chip ≡ Wd1797 → (b ≡ 0xC2) ⊎ (b ≡ 0xC6) → ReadByte chip b
-  read-track-with-u : chip ≡ Wd1797 → (b ≡ 0xE2) ⊎ (b ≡ 0xE6) → ReadByte chip b
 
 -- any of those that write: "A0-BF Write Sector; .. F0, F4 Write Track"
 pub data WriteByte (chip : Chip) (b : ℕ) : Type 0 where

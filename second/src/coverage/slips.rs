@@ -14,6 +14,7 @@ mod power_on;
 mod reading;
 mod refusing;
 mod registers;
+mod retired;
 mod ring;
 mod searching;
 mod sides;
@@ -26,8 +27,8 @@ mod writing;
 
 use super::step::{Outcome, Step};
 
-/// All subjects, in the order of document 01; after them those of requests i, b, f and h.
-pub const SUBJECTS: [&Subject; 20] = [
+/// All subjects, in the order of document 01; after them those of requests i, b, f, h and m.
+pub const SUBJECTS: [&Subject; 21] = [
     &ring::SUBJECT,
     &power_on::SUBJECT,
     &refusing::SUBJECT,
@@ -48,6 +49,7 @@ pub const SUBJECTS: [&Subject; 20] = [
     &old_marks::SUBJECT,
     &viewing::SUBJECT,
     &eight_inch::SUBJECT,
+    &retired::SUBJECT,
 ];
 
 pub struct Subject {

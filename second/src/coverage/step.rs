@@ -219,11 +219,13 @@ impl Step<'_> {
         self.awaits_head().filter(|_| self.lines.head_loaded)
     }
 
-    /// The command that searches in this byte time.
+    /// The command that searches in this byte time; Write Track awaits the index pulse.
     pub fn searches(&self) -> Option<Command> {
         match &self.before.activity {
             Activity::Searching(search) if self.passes() => Some(search.command),
-            _ => self.begins().filter(|&command| !is_track_command(command)),
+            _ => self
+                .begins()
+                .filter(|command| command.name != Name::WriteTrack),
         }
     }
 
@@ -321,9 +323,4 @@ impl Step<'_> {
 /// Whether the status is one of Types II and III.
 pub fn has_transfer_status(machine: &Machine) -> bool {
     machine.status.status_type == StatusType::Transfer
-}
-
-/// Read Track and Write Track await the index pulse; the others search.
-pub fn is_track_command(command: Command) -> bool {
-    matches!(command.name, Name::ReadTrack | Name::WriteTrack)
 }

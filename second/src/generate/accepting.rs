@@ -4,7 +4,7 @@ use super::refusing::is_force;
 use super::{Generator, HEAD_LOADED, PROTECT, READY, TRACK_0};
 use crate::command::{Command, Name};
 
-const NAMES: [Name; 11] = [
+const NAMES: [Name; 10] = [
     Name::Restore,
     Name::Seek,
     Name::Step,
@@ -13,14 +13,13 @@ const NAMES: [Name; 11] = [
     Name::ReadSector,
     Name::WriteSector,
     Name::ReadAddress,
-    Name::ReadTrack,
     Name::WriteTrack,
     Name::ForceInterrupt,
 ];
 /// Force Interrupts: INTRQ off or on, and with either no condition or one.
 const FORCES: [u8; 8] = [0xD0, 0xD1, 0xD2, 0xD4, 0xD8, 0xD9, 0xDA, 0xDC];
-/// These await the index pulse; Write Track asks for DRQ as soon as it is accepted.
-const READ_TRACK: u8 = 0xE0;
+/// Of these Write Track alone asks for DRQ as soon as it is accepted.
+const READ_ADDRESS: u8 = 0xC0;
 const WRITE_TRACK: u8 = 0xF0;
 
 /// A command and what it is loaded after.
@@ -56,7 +55,7 @@ impl Generator {
         let head = self.plan.length - self.random.between(1, 3);
         self.put_head(head);
         let byte = self.command_named(loading.name);
-        let before = [READ_TRACK, WRITE_TRACK][usize::from(loading.request)];
+        let before = [READ_ADDRESS, WRITE_TRACK][usize::from(loading.request)];
         self.command(before);
         self.refuse_while_busy(byte);
         self.load(0, loading.force);
@@ -108,7 +107,7 @@ impl Generator {
         self.set_wires(HEAD_LOADED | wires);
         let byte = self
             .random
-            .pick(&[0x80, 0xA0, 0xA4, 0xB1, 0xC0, 0xE0, 0xF0, 0xF4]);
+            .pick(&[0x80, 0xA0, 0xA4, 0xB1, 0xC0, 0xC4, 0xF0, 0xF4]);
         self.command(byte);
         if self.random.one_in(2) {
             self.command(0xC0);

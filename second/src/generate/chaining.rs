@@ -42,9 +42,11 @@ pub enum End {
 }
 
 /// How many good records a chain has, and what comes after them.
-pub const CHAINS: [(usize, End); 19] = [
+pub const CHAINS: [(usize, End); 21] = [
     (0, End::Broken),
     (0, End::Broken),
+    (1, End::Broken),
+    (1, End::Broken),
     (1, End::Broken),
     (1, End::Broken),
     (1, End::Broken),

@@ -1,4 +1,4 @@
-// Scenes of single commands: Type I, the sector commands, Read Address and the track commands.
+// Scenes of single commands: Type I, the sector commands, Read Address and Write Track.
 
 use super::serving::Host;
 use super::{Generator, HEAD_LOADED, NO_LIMIT, PROTECT, READY, TRACK_0};
@@ -7,7 +7,7 @@ use crate::command::Command;
 
 /// Rounds after which a scene ends its command by force.
 const MOST_ROUNDS: usize = 3000;
-/// The longest track whose every cell a scene reads or writes without a second thought.
+/// The longest track whose every cell a scene writes without a second thought.
 const SHORT_TRACK: usize = 2300;
 
 /// Read Sector and Write Sector with all of their bits: the same bytes on both chips.
@@ -83,24 +83,13 @@ impl Generator {
         self.end_command();
     }
 
-    pub fn read_track_scene(&mut self) {
-        let byte = self.random.pick(&[0xE0, 0xE4]);
-        self.track_scene(byte);
-    }
-
-    /// Write Track; what it left is looked at in part.
+    /// Write Track; what it left is looked at in part. A whole track takes a line or two for each
+    /// cell, so a long one is ended early.
     pub fn write_track_scene(&mut self) {
-        let byte = self.random.pick(&[0xF0, 0xF4]);
-        self.track_scene(byte);
-        let place = self.random.below(self.plan.length - 64);
-        self.say(format!("V {:X} 40", place));
-    }
-
-    /// A whole track takes a line or two for each cell, so a long one is mostly ended early.
-    fn track_scene(&mut self, byte: u8) {
         self.choose_transfer_wires();
         let near_index = self.plan.length - self.random.between(0, 6);
         self.put_head(near_index);
+        let byte = self.random.pick(&[0xF0, 0xF4]);
         self.command(byte);
         let whole = self.plan.length <= SHORT_TRACK && !self.random.one_in(3);
         let rounds = if whole {
@@ -114,6 +103,8 @@ impl Generator {
         };
         self.serve(host, rounds);
         self.end_command();
+        let place = self.random.below(self.plan.length - 64);
+        self.say(format!("V {:X} 40", place));
     }
 
     /// A Type I command, from some tracks off its aim, while the lines change.

@@ -25,7 +25,7 @@ const SCENES: [fn(&mut Generator); 7] = [
     Generator::long_track_scene,
 ];
 /// Commands that go on for long without DRQ where HLT is off.
-const WAITS: [u8; 8] = [0x80, 0x84, 0xA4, 0xC4, 0xE4, 0x14, 0x03, 0x07];
+const WAITS: [u8; 8] = [0x80, 0x84, 0xA4, 0xC0, 0xC4, 0x14, 0x03, 0x07];
 /// Lengths, rows and positions that one scene tries.
 const TRIES: usize = 4;
 /// Rounds that a record of 128 bytes and the search before it take at most.
@@ -212,32 +212,27 @@ impl Generator {
         self.set_cells(place, &[cell]);
     }
 
-    /// Read Track or Write Track: its first cells, those round the places, and its last ones.
+    /// Write Track: its first cells, those round the places, and its last ones.
     fn long_track_scene(&mut self) {
-        let byte = self.random.pick(&[0xE0, 0xF0]);
         self.set_wires(READY | HEAD_LOADED);
         self.put_head(self.plan.length - 1);
-        self.command(byte);
+        self.command(0xF0);
         for place in self.places_on_ring() {
             for _ in 0..3 {
-                self.serve_track_cell(byte);
+                self.write_format_byte();
             }
             self.show_round_head();
             self.move_head(place - 2);
         }
         while self.is_busy() {
-            self.serve_track_cell(byte);
+            self.write_format_byte();
         }
         self.say(format!("V {:X} 4", self.plan.length - 4));
         self.end_command();
     }
 
-    fn serve_track_cell(&mut self, byte: u8) {
-        if byte == 0xE0 {
-            self.serve_read();
-        } else {
-            let byte = self.next_format_byte();
-            self.write_byte(byte);
-        }
+    fn write_format_byte(&mut self) {
+        let byte = self.next_format_byte();
+        self.write_byte(byte);
     }
 }

@@ -6,7 +6,7 @@ use crate::field::FLAG;
 /// Commands that look for an ID of this track and sector.
 const SEARCHES: [u8; 5] = [0x80, 0x82, 0xA0, 0x90, 0x14];
 /// What may follow a Force Interrupt.
-const NEXT: [u8; 8] = [0xD0, 0xD0, 0x10, 0x40, 0x80, 0xA0, 0xC0, 0xE0];
+const NEXT: [u8; 8] = [0xD0, 0xD0, 0x10, 0x40, 0x80, 0xA0, 0xC0, 0xF0];
 
 impl Generator {
     /// A matching ID passes with a bad CRC or a flagged cell, at times a good one after it; then a

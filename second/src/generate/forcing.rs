@@ -5,17 +5,16 @@ use crate::activity::Activity;
 use crate::random::Random;
 
 /// Every activity with commands that lead to it.
-const AIMS: [(&str, &[u8]); 11] = [
+const AIMS: [(&str, &[u8]); 10] = [
     ("Idle", &[]),
     ("Stepping", &[0x10, 0x03, 0x41, 0x72, 0x33]),
-    ("Settling", &[0x84, 0xA4, 0xC4, 0xE4, 0xF4, 0x44]),
+    ("Settling", &[0x84, 0xA4, 0xC4, 0xF4, 0x44]),
     ("Searching", &[0x80, 0xA0, 0xC0, 0x90, 0x14, 0x1C]),
     ("ReadingAddress", &[0xC0]),
     ("AwaitingDataMark", &[0x80, 0x90]),
     ("ReadingRecord", &[0x80, 0x90]),
     ("WritingRecord", &[0xA0, 0xB1]),
-    ("AwaitingIndex", &[0xE0, 0xF0]),
-    ("ReadingTrack", &[0xE0]),
+    ("AwaitingIndex", &[0xF0]),
     ("WritingTrack", &[0xF0]),
 ];
 
@@ -44,7 +43,8 @@ pub fn pairs() -> Vec<Pair> {
 const MOST_ROUNDS: usize = 600;
 
 impl Generator {
-    /// Leads the machine into an activity, then forces an end.
+    /// Leads the machine into an activity, then forces an end. What is refused before it leaves the
+    /// activity as it is.
     pub fn forcing_scene(&mut self, pair: Pair) {
         let Pair {
             aim,
@@ -68,12 +68,15 @@ impl Generator {
             self.begin_towards(aim, commands, place);
         }
         self.lead_to(aim);
+        if self.random.one_in(2) {
+            self.load_retired();
+        }
         self.force(byte);
     }
 
     fn begin_towards(&mut self, aim: &str, commands: &[u8], place: usize) {
         let head = match aim {
-            "ReadingTrack" | "WritingTrack" => self.plan.length - self.random.between(1, 4),
+            "WritingTrack" => self.plan.length - self.random.between(1, 4),
             _ => place + self.plan.length - self.random.between(1, 10),
         };
         self.put_head(head);

@@ -9,7 +9,7 @@ use crate::tracks::Plan;
 /// Which chip a script begins with depends on the seed modulo this number. Of what is taken in turn
 /// on that chip, no number of choices has this factor: so seeds in a row meet each choice on each
 /// chip.
-const CHIP_PERIOD: u64 = 5;
+const CHIP_PERIOD: u64 = 13;
 /// Lengths round the limits, also round the old one, 6,400.
 pub const LENGTHS: [usize; 9] = [0, 2047, 2048, 6400, 6401, 10_415, 10_416, 10_417, 0xFFFF];
 /// Rings of pictures, round the limits, and round what 13 bits hold.
@@ -20,7 +20,7 @@ impl Generator {
     pub fn begin(&mut self, seed: u64) {
         let stays = self.random.one_in(8);
         match seed % CHIP_PERIOD {
-            1 | 3 => self.power_on(Chip::Wd1797),
+            1 | 3 | 6 | 8 | 11 => self.power_on(Chip::Wd1797),
             _ if stays => self.lay_random_track(),
             _ => self.power_on(Chip::Wd1793),
         }

@@ -3,7 +3,7 @@
 use super::power_on::LENGTHS;
 use super::{Generator, NO_LIMIT};
 use crate::chip::Chip;
-use crate::command::Command;
+use crate::command::{Command, RETIRED};
 use crate::field::LARGEST_CELL;
 use crate::machine::{self, LONGEST_TRACK};
 
@@ -20,9 +20,19 @@ pub fn is_force(byte: u8) -> bool {
 }
 
 impl Generator {
-    /// Any byte that is no command of the machine's chip.
+    /// Any byte that is no command of the machine's chip, often one of those that no longer are.
     pub fn no_command(&mut self) -> u8 {
+        if self.random.one_in(4) {
+            return self.random.pick(&RETIRED);
+        }
         self.random.pick(&no_commands(self.chip()))
+    }
+
+    /// 6 while Busy, 7 while idle, for each of those that no longer are commands.
+    pub fn load_retired(&mut self) {
+        for byte in RETIRED {
+            self.load(0, byte);
+        }
     }
 
     pub fn refusing_scene(&mut self) {
@@ -157,7 +167,8 @@ impl Generator {
     pub fn refuse_byte(&mut self) {
         if self.is_busy() {
             let register = self.random.pick(&[0, 0, 1, 2]);
-            let byte = self.random.byte();
+            let (any, no_command) = (self.random.byte(), self.no_command());
+            let byte = self.random.pick(&[any, any, no_command]);
             // Here none is to be taken.
             self.load(register, if is_force(byte) { byte ^ 0x80 } else { byte });
         } else {

@@ -64,7 +64,7 @@ impl Generator {
             self.bench.machine.activity,
             Activity::WritingRecord(_)
                 | Activity::WritingTrack(_)
-                | Activity::AwaitingIndex(_)
+                | Activity::AwaitingIndex
                 | Activity::Settling(_)
         );
         if writes != self.random.one_in(60) {

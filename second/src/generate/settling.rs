@@ -4,7 +4,7 @@ use super::{Generator, HEAD_LOADED, READY};
 use crate::activity::Activity;
 
 /// Commands that settle and then look for an ID or for the index pulse.
-const SETTLING_COMMANDS: [u8; 8] = [0x84, 0x94, 0xA4, 0xC4, 0xE4, 0xF4, 0x14, 0x1C];
+const SETTLING_COMMANDS: [u8; 8] = [0x84, 0x94, 0xA4, 0xC4, 0xF4, 0xF4, 0x14, 0x1C];
 /// Far more runs than a settling is ever cut into.
 const MOST_RUNS: usize = 60;
 
@@ -25,7 +25,7 @@ impl Generator {
         let byte = self.random.pick(&SETTLING_COMMANDS);
         let number = self.random.byte();
         let place = match byte {
-            0xE4 | 0xF4 => 0,
+            0xF4 => 0,
             _ => self.edge_place(),
         };
         self.lay_sector(place, self.short_sector(number));

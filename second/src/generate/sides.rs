@@ -13,15 +13,14 @@ const LENGTH_FLAG: u8 = 0x08;
 /// Bits in which an ID's side may differ from the side that a command asks for.
 const OTHER_BITS: [u8; 7] = [0, 0, 1, 1, 0x02, 0x80, 0xFE];
 /// Commands that put a side on the output.
-const TRANSFERS: [Name; 5] = [
+const TRANSFERS: [Name; 4] = [
     Name::ReadSector,
     Name::WriteSector,
     Name::ReadAddress,
-    Name::ReadTrack,
     Name::WriteTrack,
 ];
 /// Type III with bit 1, which only a 1797 takes.
-const TYPE_THREE_WITH_SIDE: [u8; 6] = [0xC2, 0xC6, 0xE2, 0xE6, 0xF2, 0xF6];
+const TYPE_THREE_WITH_SIDE: [u8; 4] = [0xC2, 0xC6, 0xF2, 0xF6];
 /// Loads of one scene.
 const LOADS: usize = 8;
 
@@ -40,7 +39,7 @@ impl Generator {
     fn two_sided(&mut self, byte: u8) -> u8 {
         match byte {
             0x80..=0xBF => byte & !(SIDE_SELECT | LENGTH_FLAG) | self.track_flags(),
-            0xC0..=0xCF | 0xE0..=0xFF => byte | self.random.pick(&[0, SIDE_SELECT]),
+            0xC0..=0xCF | 0xF0..=0xFF => byte | self.random.pick(&[0, SIDE_SELECT]),
             _ => byte,
         }
     }

@@ -102,10 +102,7 @@ impl Generator {
             1 | 2 => self.random.below(0x80) as u8 | VERIFY,
             3..=5 => self.random.pick(&sector_commands()),
             6 => self.command_named(Name::ReadAddress),
-            _ => {
-                let name = self.random.pick(&[Name::ReadTrack, Name::WriteTrack]);
-                self.command_named(name)
-            }
+            _ => self.command_named(Name::WriteTrack),
         }
     }
 
@@ -192,7 +189,7 @@ impl Generator {
                 | Activity::Settling(_)
                 | Activity::Searching(_)
                 | Activity::AwaitingDataMark(_)
-                | Activity::AwaitingIndex(_)
+                | Activity::AwaitingIndex
         )
     }
 

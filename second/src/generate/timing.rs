@@ -6,9 +6,7 @@ use crate::activity::Activity;
 
 /// Commands whose search begins with a byte time that a scene can reckon: Types II and III with E
 /// and without, and Seek with V from the right track.
-pub const BEGINNINGS: [u8; 12] = [
-    0x80, 0xA0, 0xC0, 0x84, 0xA4, 0xC4, 0xE0, 0xF0, 0xE4, 0xF4, 0x14, 0x1C,
-];
+pub const BEGINNINGS: [u8; 10] = [0x80, 0xA0, 0xC0, 0x84, 0xA4, 0xC4, 0xF0, 0xF4, 0x14, 0x1C];
 
 /// Those of them that settle.
 pub const SETTLINGS: [u8; 8] = [0x84, 0x14, 0xA4, 0x1C, 0xC4, 0x14, 0xF4, 0x1C];
@@ -61,10 +59,10 @@ impl Generator {
         self.end_command();
     }
 
-    /// The head stands so that the search begins with the first cell of an ID, or a track command
-    /// with the index pulse; or with the cell before it, or the cell after it.
+    /// The head stands so that the search begins with the first cell of an ID, or Write Track with
+    /// the index pulse; or with the cell before it, or the cell after it.
     pub fn beginning_scene(&mut self, byte: u8) {
-        let for_index = matches!(byte, 0xE0 | 0xE4 | 0xF0 | 0xF4);
+        let for_index = matches!(byte, 0xF0 | 0xF4);
         let place = if for_index {
             self.plan.length
         } else {
@@ -83,7 +81,7 @@ impl Generator {
         if self.random.one_in(3) {
             self.begin_with_head_late(byte, before);
         } else {
-            self.command(byte);
+            self.begin_served(byte);
         }
         if self.random.one_in(3) {
             self.go(before + 1);
@@ -91,6 +89,14 @@ impl Generator {
         }
         self.serve(Host::Prompt, 12);
         self.end_command();
+    }
+
+    /// Write Track asks for its first byte at once; once that is served, it waits as the others do.
+    fn begin_served(&mut self, byte: u8) {
+        self.command(byte);
+        if self.bench.machine.data_request && !self.random.one_in(4) {
+            self.serve_request();
+        }
     }
 
     /// HLT goes off once the command has begun, and is not looked at again.
@@ -114,7 +120,7 @@ impl Generator {
     /// HLT comes on just as the settling ends, or one byte time before or after.
     fn begin_with_head_late(&mut self, byte: u8, before: usize) {
         self.set_wires(READY);
-        self.command(byte);
+        self.begin_served(byte);
         let around = self.random.below(4);
         self.go((before + around).saturating_sub(1));
         self.set_wires(READY | HEAD_LOADED);

@@ -1,4 +1,4 @@
-// Short scenes of Read Track and Write Track: the first cells, then, the head moved, the last ones.
+// Short scenes of Write Track: the first cells, then, the head moved, the last ones.
 
 use super::{Generator, HEAD_LOADED, READY};
 use crate::density::Density;
@@ -15,29 +15,6 @@ const MFM_MARKS: [u8; 11] = [
 const PIECES: usize = 8;
 
 impl Generator {
-    /// Read Track, its first cells and its last; the last byte may be left unread.
-    pub fn read_ends_scene(&mut self) {
-        self.set_wires(READY | HEAD_LOADED);
-        self.put_head(self.plan.length - 1);
-        self.command(0xE0);
-        self.go(2);
-        for _ in 0..3 {
-            self.serve_read();
-        }
-        self.move_head(self.plan.length - 3);
-        while self.is_busy() {
-            self.serve_read();
-        }
-        self.end_command();
-    }
-
-    pub fn serve_read(&mut self) {
-        if !self.random.one_in(4) {
-            self.read(3);
-        }
-        self.byte_time();
-    }
-
     /// Write Track whose first byte never comes.
     pub fn unserved_track_scene(&mut self) {
         self.set_wires(READY | HEAD_LOADED);

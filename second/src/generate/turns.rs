@@ -1,10 +1,11 @@
 // What every script begins with, so that some hundred seeds in a row meet all of it.
 
 use super::{accepting, chaining, commands, data_marks, forcing, refusing, timing, Generator};
+use crate::command::RETIRED;
 use crate::random::in_turn;
 
 /// Scenes of some lines each.
-pub const SHORT_SCENES: [fn(&mut Generator); 22] = [
+pub const SHORT_SCENES: [fn(&mut Generator); 21] = [
     Generator::side_output_scene,
     Generator::side_scene,
     Generator::side_scene,
@@ -24,7 +25,6 @@ pub const SHORT_SCENES: [fn(&mut Generator); 22] = [
     Generator::overwriting_scene,
     Generator::odd_address_scene,
     Generator::late_write_scene,
-    Generator::read_ends_scene,
     Generator::unserved_track_scene,
     Generator::marks_scene,
 ];
@@ -34,11 +34,11 @@ const LOADINGS: u64 = 7;
 const VIEW_ONE_IN: u64 = 4;
 
 impl Generator {
-    /// Each byte that is no command and each data mark with each CRC, on both chips. On one of them
-    /// each Type I command and each sector command; each length read and written; each command that
-    /// settles; each Force Interrupt in each activity; each scene of long rings. On the other each
-    /// chain of records; each command with DRQ, INTRQ and each condition off and on; and every short
-    /// scene.
+    /// Each byte that is no command, more often those that no longer are, and each data mark with
+    /// each CRC, on both chips. On one of them each Type I command and each sector command; each
+    /// length read and written; each command that settles; each Force Interrupt in each activity;
+    /// each scene of long rings. On the other each chain of records; each command with DRQ, INTRQ and
+    /// each condition off and on; and every short scene.
     pub fn take_turns(&mut self, seed: u64) {
         self.load_no_command(seed);
         self.marked_record_scene(in_turn(&data_marks::marked_records(), seed));
@@ -67,5 +67,6 @@ impl Generator {
 
     fn load_no_command(&mut self, seed: u64) {
         self.load(0, in_turn(&refusing::no_commands(self.chip()), seed));
+        self.load(0, in_turn(&RETIRED, seed));
     }
 }

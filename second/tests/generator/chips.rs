@@ -6,7 +6,7 @@ use second::command::{Command, Name};
 use second::field::LengthCodes;
 
 const SECTOR_COMMANDS: [Name; 2] = [Name::ReadSector, Name::WriteSector];
-const TYPE_THREE: [Name; 3] = [Name::ReadAddress, Name::ReadTrack, Name::WriteTrack];
+const TYPE_THREE: [Name; 2] = [Name::ReadAddress, Name::WriteTrack];
 
 pub fn wanted() -> Vec<String> {
     let mut keys = vec!["P bad of chip [2]".to_string()];

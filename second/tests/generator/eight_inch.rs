@@ -79,14 +79,13 @@ const VIEWS: [&str; 4] = [
 const SEARCHES: [&str; 3] = ["search of A2C1", "search of CB70", "search of CB6F"];
 
 /// Activities that pass from the last cell of the longest ring to its first, or end there.
-const OVER_END: [&str; 8] = [
+const OVER_END: [&str; 7] = [
     "Stepping",
     "Settling",
     "Searching",
     "AwaitingDataMark",
     "ReadingRecord",
     "WritingRecord",
-    "ReadingTrack",
     "WritingTrack",
 ];
 

@@ -5,6 +5,7 @@ mod data_marks;
 mod eight_inch;
 mod met;
 mod multiple;
+mod retired;
 mod runs;
 mod stretches;
 
@@ -20,7 +21,7 @@ const SEEDS: u64 = 300;
 const MANY: usize = 10;
 /// And so many are some.
 const SOME: usize = 3;
-const ACTIVITIES: [&str; 11] = [
+const ACTIVITIES: [&str; 10] = [
     "Idle",
     "Stepping",
     "Settling",
@@ -30,10 +31,9 @@ const ACTIVITIES: [&str; 11] = [
     "ReadingRecord",
     "WritingRecord",
     "AwaitingIndex",
-    "ReadingTrack",
     "WritingTrack",
 ];
-const COMMANDS: [&str; 10] = [
+const COMMANDS: [&str; 9] = [
     "Restore",
     "Seek",
     "Step",
@@ -42,7 +42,6 @@ const COMMANDS: [&str; 10] = [
     "ReadSector",
     "WriteSector",
     "ReadAddress",
-    "ReadTrack",
     "WriteTrack",
 ];
 /// INTRQ and a condition of a Force Interrupt.
@@ -61,7 +60,7 @@ const ANSWERS: [&str; 19] = [
     "P 00", "P 01", "W 00", "W 02", "W 05", "W 06", "W 07", "R 00", "R 02", "R 05", "B 00", "B 02",
     "B 03", "B 04", "G 00", "G 02", "G 03", "G 04", "bad line",
 ];
-const EVENTS: [&str; 33] = [
+const EVENTS: [&str; 31] = [
     "run with limit 0",
     "run stopped by 4 after some byte times",
     "DRQ served by a read",
@@ -77,7 +76,6 @@ const EVENTS: [&str; 33] = [
     "Lost Data in ReadingAddress",
     "Lost Data in ReadingRecord",
     "Lost Data in WritingRecord",
-    "Lost Data in ReadingTrack",
     "Lost Data in WritingTrack",
     "Lost Data in AwaitingIndex",
     "ring's end in Searching",
@@ -93,7 +91,6 @@ const EVENTS: [&str; 33] = [
     "WritingRecord to Searching",
     "WritingRecord to Idle",
     "ReadingAddress to Idle",
-    "ReadingTrack to Idle",
     "WritingTrack to Idle",
 ];
 /// Events that must be met in each density.
@@ -180,6 +177,11 @@ fn loadings() -> Vec<String> {
 #[test]
 fn many_scripts_load_every_command_in_every_state() {
     assert_eq!(met_by_fewer(loadings(), MANY), Vec::<String>::new());
+}
+
+#[test]
+fn many_scripts_load_every_retired_byte_on_each_chip_and_in_each_activity() {
+    assert_eq!(met_by_fewer(retired::wanted(), MANY), Vec::<String>::new());
 }
 
 #[test]

@@ -198,10 +198,12 @@ impl Met {
                 self.note_matches(bench, command);
                 self.note_side_output(machine, command, bench.lines);
             }
-            None if !machine.is_busy() => {
-                self.note(format!("no command {:02X} of the {}", byte, chip));
+            Some(_) => {}
+            None => {
+                let busy = if machine.is_busy() { ", Busy" } else { "" };
+                self.note(format!("no command {:02X} of the {}{}", byte, chip, busy));
+                self.note(format!("no command {:02X} in {}", byte, activity));
             }
-            _ => {}
         }
     }
 

@@ -43,7 +43,7 @@ fn is_watched(machine: &Machine) -> bool {
             | Activity::Stepping(_)
             | Activity::Settling(_)
             | Activity::Searching(_)
-            | Activity::AwaitingIndex(_)
+            | Activity::AwaitingIndex
     )
 }
 

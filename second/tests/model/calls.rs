@@ -197,7 +197,7 @@ fn a_run_passes_its_limit_and_no_more() {
 
 #[test]
 fn not_ready_ends_types_ii_and_iii_in_the_load_call() {
-    for byte in [0x80, 0xA0, 0xC0, 0xE0, 0xF0] {
+    for byte in [0x80, 0xA0, 0xC0, 0xF0] {
         let mut desk = Desk::new(Fm);
         desk.lines = Lines::from_bits(0xA);
         desk.command(byte);

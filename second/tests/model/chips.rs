@@ -9,7 +9,7 @@ use second::number;
 use crate::desk::{Desk, Fm, Mfm, BOTH, NO_LIMIT};
 
 /// Commands of both chips that do the same where the 1797's have L 1 and side 0 is all there is.
-const SAME: [(u8, u8); 12] = [
+const SAME: [(u8, u8); 11] = [
     (0x80, 0x88),
     (0x84, 0x8C),
     (0x90, 0x98),
@@ -17,7 +17,6 @@ const SAME: [(u8, u8); 12] = [
     (0xB1, 0xB9),
     (0xC0, 0xC0),
     (0xC4, 0xC6),
-    (0xE0, 0xE2),
     (0xF0, 0xF2),
     (0xF4, 0xF6),
     (0x14, 0x14),
@@ -48,12 +47,10 @@ fn commands_of(chip: Chip) -> Vec<(Name, Vec<u8>)> {
     commands.extend(match chip {
         Chip::Wd1793 => [
             (Name::ReadAddress, vec![0xC0, 0xC4]),
-            (Name::ReadTrack, vec![0xE0, 0xE4]),
             (Name::WriteTrack, vec![0xF0, 0xF4]),
         ],
         Chip::Wd1797 => [
             (Name::ReadAddress, vec![0xC0, 0xC2, 0xC4, 0xC6]),
-            (Name::ReadTrack, vec![0xE0, 0xE2, 0xE4, 0xE6]),
             (Name::WriteTrack, vec![0xF0, 0xF2, 0xF4, 0xF6]),
         ],
     });
@@ -73,7 +70,7 @@ fn names_of(chip: Chip) -> Vec<Option<Name>> {
 
 #[test]
 fn each_chip_takes_its_own_bytes_and_no_others() {
-    for (chip, refused) in [(Chip::Wd1793, 58), (Chip::Wd1797, 52)] {
+    for (chip, refused) in [(Chip::Wd1793, 60), (Chip::Wd1797, 56)] {
         let names = names_of(chip);
         for (byte, &name) in (0..=255).zip(&names) {
             let command = Command::decode(byte, chip);
@@ -126,7 +123,7 @@ fn transfers_of_1797() -> Vec<(u8, u8)> {
 #[test]
 fn u_goes_to_the_side_output_at_acceptance() {
     let transfers = transfers_of_1797();
-    assert_eq!(transfers.len(), 48 + 12);
+    assert_eq!(transfers.len(), 48 + 8);
     for (byte, side) in transfers {
         for before in [0, 1] {
             let mut desk = desk_with_output(before);
@@ -186,12 +183,12 @@ fn force_interrupt_leaves_the_side_output() {
 fn a_refused_byte_leaves_the_side_output() {
     for side in [0, 1] {
         let mut desk = desk_with_output(side);
-        for byte in [0x81, 0x83, 0xC1, 0xC3, 0xEF, 0xFA] {
+        for byte in [0x81, 0x83, 0xC1, 0xC3, 0xE0, 0xE2, 0xE4, 0xE6, 0xFA] {
             assert_eq!(desk.try_load(0, byte), number::NO_COMMAND);
             assert_eq!(desk.machine.side_output, side);
         }
         desk.command([0x88, 0x8A][usize::from(side)]);
-        for byte in [0x88, 0x8A, 0xC0, 0xC2, 0xFF] {
+        for byte in [0x88, 0x8A, 0xC0, 0xC2, 0xE0, 0xE2, 0xFF] {
             assert_eq!(desk.try_load(0, byte), number::BUSY);
             assert_eq!(desk.machine.side_output, side);
         }

@@ -9,6 +9,7 @@ mod desk;
 mod eight_inch;
 mod multiple;
 mod reading;
+mod retired;
 mod searching;
 mod sides;
 mod stepping;

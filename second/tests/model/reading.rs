@@ -1,4 +1,4 @@
-// Read Sector and Read Track.
+// Read Sector.
 
 use second::density::Density;
 use second::field;
@@ -191,39 +191,4 @@ fn a_fresh_search_counts_its_pulses_anew() {
         desk.serve_reads().byte_times,
         end + 1 + (2048 - end - 1) + 4 * 2048 + 1
     );
-}
-
-#[test]
-fn read_track_hands_over_every_cell_from_the_index() {
-    for density in BOTH {
-        let mut desk = Desk::with_length(density, 2100);
-        for place in 0..2100 {
-            desk.track[place] = (place % 512) as u16;
-        }
-        desk.go_to(2000);
-        desk.command(0xE0);
-        let served = desk.serve_reads();
-        let expected: Vec<u8> = (0..2100).map(|place| (place % 256) as u8).collect();
-        assert_eq!(served.bytes, expected);
-        assert_eq!(served.byte_times, 100 + 2100);
-        assert_eq!(desk.status(), 0);
-    }
-}
-
-#[test]
-fn the_first_byte_time_of_read_track_may_be_the_pulse() {
-    let mut desk = Desk::new(Fm);
-    desk.command(0xE0);
-    assert_eq!(desk.serve_reads().byte_times, 2048);
-}
-
-#[test]
-fn read_track_that_nobody_serves_loses_data_and_ends() {
-    let mut desk = Desk::new(Fm);
-    desk.command(0xE4);
-    while !desk.machine.interrupt_request {
-        desk.byte_time();
-    }
-    assert_eq!(desk.status(), LOST_DATA | DATA_REQUEST);
-    assert_eq!(desk.machine.position, 0);
 }

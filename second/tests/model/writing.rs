@@ -226,6 +226,19 @@ fn a_late_f7_or_mark_is_written_as_00() {
 }
 
 #[test]
+fn the_first_byte_time_of_write_track_may_be_the_pulse() {
+    for (byte, settle) in [(0xF0, 0), (0xF4, 469)] {
+        let mut desk = Desk::new(Fm);
+        desk.go_to((2048 - settle) % 2048);
+        desk.command(byte);
+        desk.load(3, 0x31);
+        desk.byte_times(usize::from(settle) + 1);
+        assert_eq!(desk.status(), BUSY | DATA_REQUEST);
+        assert_eq!(desk.track[..2], [0x31, layout::gap(Fm)]);
+    }
+}
+
+#[test]
 fn write_track_unserved_at_its_first_pulse_ends_with_drq_on() {
     let mut desk = Desk::new(Fm);
     desk.go_to(2047);

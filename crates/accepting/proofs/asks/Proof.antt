@@ -3,7 +3,7 @@ use mathlib.Core.List.{[], _∷_}
 use mathlib.Core.Path.{refl}
 use borrow.Author.Needs.{needs}
 use Rattle.command.proofs.Arms.{command-arm}
-use Rattle.command.specs.declared.Command.the-variants.{Restore, Seek, Step, StepIn, StepOut, ReadSector, WriteSector, ReadAddress, ReadTrack, ForceInterrupt}
+use Rattle.command.specs.declared.Command.the-variants.{Restore, Seek, Step, StepIn, StepOut, ReadSector, WriteSector, ReadAddress, ForceInterrupt}
 use Rattle.accepting.proofs.asks.Statement.{statement}
 use Rattle.accepting.specs.Accepting.{asksFirst}
 use Rattle.accepting.proofs.asks.Tie as tie
@@ -17,7 +17,7 @@ returns c = simp (c .enum-told .given .1)
 
 returns-2 : tie.Need-returns-2
 unfolding asksFirst
-returns-2 c = command-arm asksFirst (c .before .args .command) (Restore ∷ Seek ∷ Step ∷ StepIn ∷ StepOut ∷ ReadSector ∷ WriteSector ∷ ReadAddress ∷ ReadTrack ∷ ForceInterrupt ∷ []) refl (c .match .keys2)
+returns-2 c = command-arm asksFirst (c .before .args .command) (Restore ∷ Seek ∷ Step ∷ StepIn ∷ StepOut ∷ ReadSector ∷ WriteSector ∷ ReadAddress ∷ ForceInterrupt ∷ []) refl (c .match .keys2)
 
 pub asks-spec : {M : Type 1} → statement M
 asks-spec = tie.close (tie.spec enum-told returns returns-2)

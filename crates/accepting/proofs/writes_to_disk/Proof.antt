@@ -2,7 +2,7 @@
 use mathlib.Core.List.{[], _∷_}
 use mathlib.Core.Path.{refl}
 use Rattle.command.proofs.Arms.{command-arm}
-use Rattle.command.specs.declared.Command.the-variants.{Restore, Seek, Step, StepIn, StepOut, ReadSector, WriteSector, ReadAddress, ReadTrack, WriteTrack, ForceInterrupt}
+use Rattle.command.specs.declared.Command.the-variants.{Restore, Seek, Step, StepIn, StepOut, ReadSector, WriteSector, ReadAddress, WriteTrack, ForceInterrupt}
 use Rattle.accepting.specs.Accepting.{writes}
 use Rattle.accepting.proofs.writes_to_disk.Statement.{statement}
 use Rattle.accepting.proofs.writes_to_disk.Tie as tie
@@ -13,7 +13,7 @@ returns c = command-arm writes (c .before .args .command) (WriteSector ∷ Write
 
 returns-2 : tie.Need-returns-2
 unfolding writes
-returns-2 c = command-arm writes (c .before .args .command) (Restore ∷ Seek ∷ Step ∷ StepIn ∷ StepOut ∷ ReadSector ∷ ReadAddress ∷ ReadTrack ∷ ForceInterrupt ∷ []) refl (c .match .keys2)
+returns-2 c = command-arm writes (c .before .args .command) (Restore ∷ Seek ∷ Step ∷ StepIn ∷ StepOut ∷ ReadSector ∷ ReadAddress ∷ ForceInterrupt ∷ []) refl (c .match .keys2)
 
 pub writes-to-disk-spec : {M : Type 1} → statement M
 writes-to-disk-spec = tie.close (tie.spec returns returns-2)

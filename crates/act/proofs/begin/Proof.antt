@@ -17,14 +17,8 @@ enum-told-2 c = search needs
 enum-told-3 : tie.Need-enum-told-3
 enum-told-3 c = search needs
 
-begin-if-requires : tie.Need-begin-if-requires
-begin-if-requires c κs = search needs
-
-enum-told-4 : tie.Need-enum-told-4
-enum-told-4 c = search needs
-
-begin-if-requires-2 : tie.Need-begin-if-requires-2
-begin-if-requires-2 c κs = search needs
+begin-format-requires : tie.Need-begin-format-requires
+begin-format-requires c κs = search needs
 
 returns : tie.Need-returns
 unfolding jobBegun
@@ -42,11 +36,7 @@ returns-3 c = simp (c .enum-told2 .given .1)
 
 returns-4 : tie.Need-returns-4
 unfolding jobBegun
-returns-4 c = simp (c .begin-if .ensures, c .before .enum-told3 .given .1)
-
-returns-5 : tie.Need-returns-5
-unfolding jobBegun
-returns-5 c = simp (c .begin-if2 .ensures, c .before .before .before .enum-told4 .given .1)
+returns-4 c = simp (c .begin-format .ensures, c .before .enum-told3 .given .1)
 
 pub begin-spec : {M : Type 1} → statement M
 begin-spec =
@@ -55,11 +45,8 @@ begin-spec =
     enum-told
     enum-told-2
     enum-told-3
-    begin-if-requires
-    enum-told-4
-    begin-if-requires-2
+    begin-format-requires
     returns
     returns-2
     returns-3
-    returns-4
-    returns-5)
+    returns-4)

@@ -17,11 +17,8 @@ begin-requires c κs = search needs
 enum-told : tie.Need-enum-told
 enum-told c = search needs
 
-job-of-requires-2 : tie.Need-job-of-requires-2
-job-of-requires-2 c κs = search needs
-
-begin-requires-2 : tie.Need-begin-requires-2
-begin-requires-2 c κs = search needs
+begin-format-requires : tie.Need-begin-format-requires
+begin-format-requires c κs = search needs
 
 returns : tie.Need-returns
 unfolding begunActivity
@@ -33,14 +30,10 @@ returns-2 c = simp (c .if1 .left, c .before .before .before .activity .given .1)
 
 returns-3 : tie.Need-returns-3
 unfolding begunActivity
-returns-3 c = simp (c .begin2 .ensures, c .before .job-of2 .ensures, c .before .before .if2 .taken, c .before .before .before .enum-told .given .1)
+returns-3 c = simp (c .begin-format .ensures, c .before .enum-told .given .1)
 
 returns-4 : tie.Need-returns-4
-unfolding begunActivity
-returns-4 c = simp (c .if2 .left, c .before .enum-told .given .1)
-
-returns-5 : tie.Need-returns-5
-returns-5 c = entered-else (c .before .args .o) (c .before .args .s) (c .before .args .activity) (c .match .keys3)
+returns-4 c = entered-else (c .before .args .o) (c .before .args .s) (c .before .args .activity) (c .match .keys3)
 
 pub entered-spec : {M : Type 1} → statement M
 entered-spec =
@@ -50,10 +43,8 @@ entered-spec =
     job-of-requires
     begin-requires
     enum-told
-    job-of-requires-2
-    begin-requires-2
+    begin-format-requires
     returns
     returns-2
     returns-3
-    returns-4
-    returns-5)
+    returns-4)

@@ -71,12 +71,6 @@ enum-told-3 c = search needs
 awaiting-requires : tie.Need-awaiting-requires
 awaiting-requires c κs = search needs
 
-enum-told-4 : tie.Need-enum-told-4
-enum-told-4 c = search needs
-
-track-read-requires : tie.Need-track-read-requires
-track-read-requires c κs = search needs
-
 enum-known-activity-9 : tie.Need-enum-known-activity-9
 enum-known-activity-9 c = search needs
 
@@ -156,23 +150,19 @@ returns-11 c = simp (c .awaiting .ensures, c .before .enum-told3 .given .1)
 
 returns-12 : tie.Need-returns-12
 unfolding activityAct
-returns-12 c = simp (c .track-read .ensures, c .before .enum-told4 .given .1)
+returns-12 c = simp (sym (c .preamble .ensures), sym (c .before .mark-byte .ensures), sym (c .before .before .mark-written .ensures), c .before .before .before .before .activity9 .given .1)
 
 returns-13 : tie.Need-returns-13
 unfolding activityAct
-returns-13 c = simp (sym (c .preamble .ensures), sym (c .before .mark-byte .ensures), sym (c .before .before .mark-written .ensures), c .before .before .before .before .activity9 .given .1)
+returns-13 c = simp (c .put .ensures, sym (c .before .is-multiple2 .ensures), c .before .before .before .activity10 .given .1)
 
 returns-14 : tie.Need-returns-14
 unfolding activityAct
-returns-14 c = simp (c .put .ensures, sym (c .before .is-multiple2 .ensures), c .before .before .before .activity10 .given .1)
+returns-14 c = simp (c .format .ensures, c .before .before .activity11 .given .1)
 
 returns-15 : tie.Need-returns-15
 unfolding activityAct
-returns-15 c = simp (c .format .ensures, c .before .before .activity11 .given .1)
-
-returns-16 : tie.Need-returns-16
-unfolding activityAct
-returns-16 c = simp (c .format-crc .ensures, c .before .before .activity12 .given .1)
+returns-15 c = simp (c .format-crc .ensures, c .before .before .activity12 .given .1)
 
 pub react-spec : {M : Type 1} → statement M
 react-spec =
@@ -200,8 +190,6 @@ react-spec =
     address-requires
     enum-told-3
     awaiting-requires
-    enum-told-4
-    track-read-requires
     enum-known-activity-9
     mark-written-requires
     mark-byte-requires
@@ -227,5 +215,4 @@ react-spec =
     returns-12
     returns-13
     returns-14
-    returns-15
-    returns-16)
+    returns-15)

@@ -3,7 +3,7 @@ use mathlib.Core.List.{[], _∷_}
 use mathlib.Core.Path.{refl}
 use borrow.Author.Needs.{needs}
 use Rattle.command.specs.Commands.{classOf}
-use Rattle.command.specs.declared.Command.the-variants.{Restore, Seek, Step, StepIn, StepOut, ReadSector, WriteSector, ReadAddress, ReadTrack, WriteTrack}
+use Rattle.command.specs.declared.Command.the-variants.{Restore, Seek, Step, StepIn, StepOut, ReadSector, WriteSector, ReadAddress, WriteTrack}
 use Rattle.command.proofs.Arms.{command-arm}
 use Rattle.command.proofs.class_of.Statement.{statement}
 use Rattle.command.proofs.class_of.Tie as tie
@@ -25,7 +25,7 @@ returns-3 c = command-arm classOf (c .before .args .command) (ReadSector ∷ Wri
 
 returns-4 : tie.Need-returns-4
 unfolding classOf
-returns-4 c = command-arm classOf (c .before .args .command) (ReadAddress ∷ ReadTrack ∷ WriteTrack ∷ []) refl (c .match .keys4)
+returns-4 c = command-arm classOf (c .before .args .command) (ReadAddress ∷ WriteTrack ∷ []) refl (c .match .keys4)
 
 returns-5 : tie.Need-returns-5
 unfolding classOf

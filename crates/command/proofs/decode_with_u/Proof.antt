@@ -32,23 +32,19 @@ returns-2 c = on-wd1797 _ (keys (decodedWithU Wd1797) (0xC2 ∷ 0xC6 ∷ []) ref
 
 returns-3 : tie.Need-returns-3
 unfolding decodedWithU
-returns-3 c = on-wd1797 _ (keys (decodedWithU Wd1797) (0xE2 ∷ 0xE6 ∷ []) refl (c .match2 .keys2)) (c .before .enum-told2 .given .1)
+returns-3 c = on-wd1797 _ (keys (decodedWithU Wd1797) (0xF2 ∷ 0xF6 ∷ []) refl (c .match2 .keys2)) (c .before .enum-told2 .given .1)
 
 returns-4 : tie.Need-returns-4
 unfolding decodedWithU
-returns-4 c = on-wd1797 _ (keys (decodedWithU Wd1797) (0xF2 ∷ 0xF6 ∷ []) refl (c .match2 .keys3)) (c .before .enum-told2 .given .1)
-
-returns-5 : tie.Need-returns-5
-unfolding decodedWithU
-returns-5 c =
+returns-4 c =
     let rest = c .match2 .rest in
     on-wd1797 _
     (range-but (decodedWithU Wd1797)
-    (λ k. hasKey (0xC2 ∷ 0xC6 ∷ []) k || hasKey (0xE2 ∷ 0xE6 ∷ []) k || hasKey (0xF2 ∷ 0xF6 ∷ []) k) 0 256 refl zero-le
+    (λ k. hasKey (0xC2 ∷ 0xC6 ∷ []) k || hasKey (0xF2 ∷ 0xF6 ∷ []) k) 0 256 refl zero-le
     (c .before .before .before .fits .byte .fits)
-    (simp (unnamed (0xC2 ∷ 0xC6 ∷ []) _ (rest .0 .0 .1), unnamed (0xE2 ∷ 0xE6 ∷ []) _ (rest .0 .1), unnamed (0xF2 ∷ 0xF6 ∷ []) _ (rest .1))))
+    (simp (unnamed (0xC2 ∷ 0xC6 ∷ []) _ (rest .0 .1), unnamed (0xF2 ∷ 0xF6 ∷ []) _ (rest .1))))
     (c .before .enum-told2 .given .1)
 
 pub decode-with-u-spec : {M : Type 1} → statement M
 decode-with-u-spec =
-    tie.close (tie.spec enum-told enum-told-2 returns returns-2 returns-3 returns-4 returns-5)
+    tie.close (tie.spec enum-told enum-told-2 returns returns-2 returns-3 returns-4)

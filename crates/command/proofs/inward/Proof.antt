@@ -3,7 +3,7 @@ use mathlib.Core.List.{[], _∷_}
 use mathlib.Core.Path.{refl}
 use borrow.Author.Needs.{needs}
 use Rattle.command.specs.Orders.{inwardOf}
-use Rattle.command.specs.declared.Command.the-variants.{Restore, Seek, Step, ReadSector, WriteSector, ReadAddress, ReadTrack, WriteTrack, ForceInterrupt}
+use Rattle.command.specs.declared.Command.the-variants.{Restore, Seek, Step, ReadSector, WriteSector, ReadAddress, WriteTrack, ForceInterrupt}
 use Rattle.command.proofs.Arms.{command-arm}
 use Rattle.command.proofs.inward.Statement.{statement}
 use Rattle.command.proofs.inward.Tie as tie
@@ -26,7 +26,7 @@ returns-3 : tie.Need-returns-3
 unfolding inwardOf
 returns-3 c =
     command-arm (λ command. inwardOf command (c .before .args .last)) (c .before .args .command)
-    (Restore ∷ Seek ∷ Step ∷ ReadSector ∷ WriteSector ∷ ReadAddress ∷ ReadTrack ∷ WriteTrack ∷ ForceInterrupt ∷ []) refl
+    (Restore ∷ Seek ∷ Step ∷ ReadSector ∷ WriteSector ∷ ReadAddress ∷ WriteTrack ∷ ForceInterrupt ∷ []) refl
     (c .match .keys3)
 
 pub inward-spec : {M : Type 1} → statement M

@@ -4,7 +4,7 @@ use Rattle.command.specs.Commands.{isRestore}
 use mathlib.Core.List.{[], _∷_}
 use mathlib.Core.Path.{refl}
 use Rattle.command.proofs.Arms.{command-arm}
-use Rattle.command.specs.declared.Command.the-variants.{Seek, Step, StepIn, StepOut, ReadSector, WriteSector, ReadAddress, ReadTrack, WriteTrack, ForceInterrupt}
+use Rattle.command.specs.declared.Command.the-variants.{Seek, Step, StepIn, StepOut, ReadSector, WriteSector, ReadAddress, WriteTrack, ForceInterrupt}
 use borrow.Author.Needs.{needs}
 use Rattle.command.proofs.is_restore.Tie as tie
 
@@ -19,7 +19,7 @@ returns-2 : tie.Need-returns-2
 unfolding isRestore
 returns-2 c =
     command-arm isRestore (c .before .args .command)
-    (Seek ∷ Step ∷ StepIn ∷ StepOut ∷ ReadSector ∷ WriteSector ∷ ReadAddress ∷ ReadTrack ∷ WriteTrack ∷ ForceInterrupt ∷ []) refl
+    (Seek ∷ Step ∷ StepIn ∷ StepOut ∷ ReadSector ∷ WriteSector ∷ ReadAddress ∷ WriteTrack ∷ ForceInterrupt ∷ []) refl
     (c .match .keys2)
 
 pub is-restore-spec : {M : Type 1} → statement M

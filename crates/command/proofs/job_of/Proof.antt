@@ -23,9 +23,6 @@ enum-told-4 c = search needs
 enum-told-5 : tie.Need-enum-told-5
 enum-told-5 c = search needs
 
-enum-told-6 : tie.Need-enum-told-6
-enum-told-6 c = search needs
-
 returns : tie.Need-returns
 unfolding jobOf
 returns c = command-arm jobOf (c .before .args .command) (Restore ∷ Seek ∷ []) refl (c .match .keys1)
@@ -54,10 +51,6 @@ returns-7 : tie.Need-returns-7
 unfolding jobOf
 returns-7 c = simp (c .enum-told5 .given .1)
 
-returns-8 : tie.Need-returns-8
-unfolding jobOf
-returns-8 c = simp (c .enum-told6 .given .1)
-
 pub job-of-spec : {M : Type 1} → statement M
 job-of-spec =
     tie.close
@@ -67,12 +60,10 @@ job-of-spec =
     enum-told-3
     enum-told-4
     enum-told-5
-    enum-told-6
     returns
     returns-2
     returns-3
     returns-4
     returns-5
     returns-6
-    returns-7
-    returns-8)
+    returns-7)

@@ -29,9 +29,6 @@ enum-told-5 c = search needs
 enum-told-6 : tie.Need-enum-told-6
 enum-told-6 c = search needs
 
-enum-told-7 : tie.Need-enum-told-7
-enum-told-7 c = search needs
-
 returns : tie.Need-returns
 unfolding matchesFor
 returns c = simp (c .enum-told .given .1)
@@ -56,10 +53,6 @@ returns-6 : tie.Need-returns-6
 unfolding matchesFor
 returns-6 c = simp (c .enum-told6 .given .1)
 
-returns-7 : tie.Need-returns-7
-unfolding matchesFor
-returns-7 c = simp (c .enum-told7 .given .1)
-
 pub matches-spec : {M : Type 1} → statement M
 matches-spec =
     tie.close
@@ -72,11 +65,9 @@ matches-spec =
     sector-matches-requires-2
     enum-told-5
     enum-told-6
-    enum-told-7
     returns
     returns-2
     returns-3
     returns-4
     returns-5
-    returns-6
-    returns-7)
+    returns-6)

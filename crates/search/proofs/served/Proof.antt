@@ -36,7 +36,7 @@ returns-2 c = simp (sym (c .field-size2 .ensures .0), c .before .enum-told2 .giv
 
 returns-3 : tie.Need-returns-3
 unfolding afterMatch
-returns-3 c = jobs (afterMatch (c .before .args .ibm) (c .before .args .length)) (c .before .args .job) (job.Nothing ∷ job.Verify ∷ job.ReadAddress ∷ job.ReadTrack ∷ job.WriteTrack ∷ []) refl (c .match .keys3)
+returns-3 c = jobs (afterMatch (c .before .args .ibm) (c .before .args .length)) (c .before .args .job) (job.Nothing ∷ job.Verify ∷ job.ReadAddress ∷ job.WriteTrack ∷ []) refl (c .match .keys3)
 
 pub served-spec : {M : Type 1} → statement M
 served-spec =

@@ -23,12 +23,6 @@ enum-known-activity-3 c = search needs
 format-requires : tie.Need-format-requires
 format-requires c κs = search needs
 
-enum-told : tie.Need-enum-told
-enum-told c = search needs
-
-read-track-requires : tie.Need-read-track-requires
-read-track-requires c κs = search needs
-
 returns : tie.Need-returns
 unfolding transferIn
 returns c = simp (c .read .ensures, c .before .before .activity .given .1)
@@ -42,11 +36,7 @@ unfolding transferIn
 returns-3 c = simp (c .format .ensures, c .before .before .activity3 .given .1)
 
 returns-4 : tie.Need-returns-4
-unfolding transferIn
-returns-4 c = simp (c .read-track .ensures, c .before .enum-told .given .1)
-
-returns-5 : tie.Need-returns-5
-returns-5 c = keeps (c .before .args .s) (c .before .args .activity) (c .match .keys5)
+returns-4 c = keeps (c .before .args .s) (c .before .args .activity) (c .match .keys4)
 
 pub transferred-spec : {M : Type 1} → statement M
 transferred-spec =
@@ -58,10 +48,7 @@ transferred-spec =
     write-requires
     enum-known-activity-3
     format-requires
-    enum-told
-    read-track-requires
     returns
     returns-2
     returns-3
-    returns-4
-    returns-5)
+    returns-4)

@@ -3,7 +3,7 @@
 use super::{accepts, leave, slip, turn, Sentence, Subject};
 use crate::activity::{Activity, Search, Settling};
 use crate::command::{Command, Name};
-use crate::coverage::step::{has_transfer_status, is_track_command, Outcome, Step};
+use crate::coverage::step::{has_transfer_status, Outcome, Step};
 use crate::density::Density;
 
 pub const SUBJECT: Subject = Subject {
@@ -36,10 +36,9 @@ const SENTENCES: &[Sentence] = &[
             ),
             slip(
                 "DRQ stays (Read Address)",
-                accepts_address,
+                accepts::read_address,
                 leave::data_request,
             ),
-            slip("DRQ stays (Read Track)", accepts_track, leave::data_request),
         ],
     },
     Sentence {
@@ -111,14 +110,6 @@ const SENTENCES: &[Sentence] = &[
         ],
     },
 ];
-
-fn accepts_address(step: &Step) -> bool {
-    accepts::name(step, Name::ReadAddress)
-}
-
-fn accepts_track(step: &Step) -> bool {
-    accepts::name(step, Name::ReadTrack)
-}
 
 /// Bit 6 stays on, where it was on; a write refused now sets it all the same.
 fn leave_refused(step: &Step, wrong: &mut Outcome) {
@@ -223,9 +214,9 @@ fn works(step: &Step) -> bool {
 fn work_later(step: &Step, wrong: &mut Outcome) {
     if let Some(command) = step.begins() {
         *wrong = step.instead(|machine, _| machine.activity = Activity::Idle);
-        wrong.machine.activity = match is_track_command(command) {
-            true => Activity::AwaitingIndex(command),
-            false => Activity::Searching(Search::new(command)),
+        wrong.machine.activity = match command.name {
+            Name::WriteTrack => Activity::AwaitingIndex,
+            _ => Activity::Searching(Search::new(command)),
         };
     }
 }

@@ -29,6 +29,14 @@ pub fn write_sector(step: &Step) -> bool {
     name(step, Name::WriteSector)
 }
 
+pub fn read_address(step: &Step) -> bool {
+    name(step, Name::ReadAddress)
+}
+
+pub fn write_track(step: &Step) -> bool {
+    name(step, Name::WriteTrack)
+}
+
 pub fn type_two(step: &Step) -> bool {
     step.accepts(Command::is_type_two)
 }

@@ -28,13 +28,11 @@ const SENTENCES: &[Sentence] = &[
         ],
     },
     Sentence {
-        says: "so C2, C6, E2, E6, F2, F6 become commands for this chip only.",
+        says: "so C2, C6, .. F2, F6 become commands for this chip only.",
         slips: &[
             slip("C2, C6 refused", |step| takes(step, 0xC0), refuse),
-            slip("E2, E6 refused", |step| takes(step, 0xE0), refuse),
             slip("F2, F6 refused", |step| takes(step, 0xF0), refuse),
             slip("C2, C6 on the 1793", |step| refuses(step, 0xC0), take),
-            slip("E2, E6 on the 1793", |step| refuses(step, 0xE0), take),
             slip("F2, F6 on the 1793", |step| refuses(step, 0xF0), take),
         ],
     },
@@ -82,7 +80,8 @@ fn takes(step: &Step, high_bits: u8) -> bool {
     byte.map_or(false, |byte| byte & 0xF0 == high_bits)
 }
 
-fn refuse(step: &Step, wrong: &mut Outcome) {
+/// The byte is no command.
+pub fn refuse(step: &Step, wrong: &mut Outcome) {
     *wrong = Outcome::of(NO_COMMAND, step.before.clone());
 }
 

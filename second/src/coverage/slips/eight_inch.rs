@@ -1,8 +1,8 @@
 // Slips of eight-inch disks: rings above 6,400 cells, and counts of so many byte times.
 
-use super::{leave, refusing, slip, turn, Sentence, Subject};
+use super::{formatting, leave, refusing, slip, turn, Sentence, Subject};
 use crate::activity::Activity;
-use crate::coverage::step::{self, Call, Outcome, RunSoFar, Step};
+use crate::coverage::step::{Call, Outcome, RunSoFar, Step};
 use crate::machine::{self, LONGEST_TRACK};
 use crate::number::{CELL, DONE, LENGTH, MACHINE, TRACK};
 use crate::viewer;
@@ -378,9 +378,7 @@ fn pulses_in_search(step: &Step) -> bool {
 }
 
 fn pulses_for_track(step: &Step) -> bool {
-    let awaits = matches!(step.before.activity, Activity::AwaitingIndex(_));
-    let begins = step.begins().map_or(false, step::is_track_command);
-    pulses(step) && (awaits || begins)
+    pulses(step) && formatting::awaits_pulse(step)
 }
 
 /// The byte time as if the head stood somewhere else.
@@ -415,18 +413,14 @@ fn searches_for(step: &Step, byte_times: u16) -> bool {
     has_passed(step, byte_times - 1) && !has_passed(step, byte_times) && step.searches().is_some()
 }
 
-/// The track command passes the cell before this one.
+/// Write Track passes the cell before this one.
 fn is_track_before(step: &Step, place: u16) -> bool {
-    let tracks = matches!(
-        step.before.activity,
-        Activity::ReadingTrack | Activity::WritingTrack(_)
-    );
-    tracks && is_before(step, place)
+    matches!(step.before.activity, Activity::WritingTrack(_)) && is_before(step, place)
 }
 
 /// A Write Track that ends asks for no byte.
-fn end(step: &Step, wrong: &mut Outcome) {
-    wrong.machine.data_request &= step.before.activity == Activity::ReadingTrack;
+fn end(_: &Step, wrong: &mut Outcome) {
+    wrong.machine.data_request = false;
     wrong.end();
 }
 

@@ -1,8 +1,8 @@
 // Slips of Write Track.
 
-use super::{leave, slip, turn, Sentence, Subject};
+use super::{accepts, leave, slip, turn, Sentence, Subject};
 use crate::activity::{Activity, TrackWrite};
-use crate::command::{Command, Name};
+use crate::command::Name;
 use crate::coverage::step::{Outcome, Step};
 use crate::crc;
 use crate::density::Density::{self, Fm, Mfm};
@@ -25,8 +25,8 @@ const SENTENCES: &[Sentence] = &[
         says: "DRQ at acceptance, unless it ends at once; still on at the first pulse: Lost Data, \
                end.",
         slips: &[
-            slip("DRQ stays off", accepts_it, turn::drq_off),
-            slip("DRQ if it ends at once", accepts_it, turn::drq_on),
+            slip("DRQ stays off", accepts::write_track, turn::drq_off),
+            slip("DRQ if it ends at once", accepts::write_track, turn::drq_on),
             slip("Lost Data stays off", ends_unserved, turn::lost_data_off),
             slip("it does not end", ends_unserved, begin),
             slip("DRQ goes off", ends_unserved, turn::drq_off),
@@ -40,6 +40,7 @@ const SENTENCES: &[Sentence] = &[
             slip("DR though DRQ is on", writes_00, write_late_byte),
             slip("Lost Data stays off", writes_00, leave::lost_data),
             slip("DRQ stays off", |step| write(step).is_some(), turn::drq_off),
+            slip("cell L - 1 does not end it", ends, write_on),
             slip("DRQ at the end", ends, turn::drq_on),
         ],
     },
@@ -125,26 +126,18 @@ const SENTENCES: &[Sentence] = &[
     },
 ];
 
-fn is_write_track(command: Command) -> bool {
-    command.name == Name::WriteTrack
-}
-
-fn accepts_it(step: &Step) -> bool {
-    step.accepts(is_write_track)
-}
-
 fn begins(step: &Step) -> bool {
-    step.begins().map_or(false, is_write_track)
+    step.begins().map(|command| command.name) == Some(Name::WriteTrack)
 }
 
 fn begins_before_pulse(step: &Step) -> bool {
     begins(step) && !step.is_pulse()
 }
 
-/// Has not met the first pulse before this byte time.
-fn awaits_pulse(step: &Step) -> bool {
+/// Write Track has not met its first pulse before this byte time.
+pub fn awaits_pulse(step: &Step) -> bool {
     match &step.before.activity {
-        Activity::AwaitingIndex(command) => step.passes() && is_write_track(*command),
+        Activity::AwaitingIndex => step.passes(),
         _ => begins(step),
     }
 }
@@ -167,6 +160,13 @@ fn write(step: &Step) -> Option<TrackWrite> {
 
 fn ends(step: &Step) -> bool {
     write(step).is_some() && step.ends()
+}
+
+/// The next cell is the first of another round.
+fn write_on(_: &Step, wrong: &mut Outcome) {
+    wrong.machine.interrupt_request = false;
+    wrong.machine.data_request = true;
+    wrong.machine.activity = Activity::WritingTrack(BEGUN);
 }
 
 /// Writes in this byte time as if Write Track were here.

@@ -1,4 +1,4 @@
-// Slips of Read Sector after its ID, Read Address and Read Track.
+// Slips of Read Sector after its ID, and of Read Address.
 
 use super::{leave, slip, turn, Sentence, Subject};
 use crate::activity::{Activity, AddressField, RecordRead, Search, Window};
@@ -9,7 +9,7 @@ use crate::density::Density;
 use crate::field;
 
 pub const SUBJECT: Subject = Subject {
-    concerns: |step| step.ends() || step.begins().is_some() || is_reading(step),
+    concerns: |step| step.ends() || is_reading(step),
     sentences: SENTENCES,
 };
 
@@ -52,7 +52,6 @@ const SENTENCES: &[Sentence] = &[
         slips: &[
             slip("DRQ goes off (Read Sector)", ends_record, turn::drq_off),
             slip("DRQ goes off (Read Address)", ends_address, turn::drq_off),
-            slip("DRQ goes off (Read Track)", ends_track, turn::drq_off),
             slip("DRQ goes off (not found)", finds_nothing, turn::drq_off),
             slip("it goes on to a second ID", misses_mark, search_on),
         ],
@@ -117,18 +116,10 @@ const SENTENCES: &[Sentence] = &[
             slip("after the mark byte too", pulses_in_address, turn::busy_off),
         ],
     },
-    Sentence {
-        says: "Cells 0 to L - 1 from the first index pulse, as data bytes go; the last ends it.",
-        slips: &[
-            slip("from the first byte time", begins_track, read_at_once),
-            slip("Lost Data stays off", reads_track, leave::lost_data),
-            slip("the last does not end it", ends_track, read_on),
-        ],
-    },
 ];
 
 fn is_reading(step: &Step) -> bool {
-    window(step).is_some() || record(step).is_some() || reads_address(step) || reads_track(step)
+    window(step).is_some() || record(step).is_some() || reads_address(step)
 }
 
 /// The window that Read Sector looks for a data mark in.
@@ -330,25 +321,4 @@ fn keep_track(step: &Step, wrong: &mut Outcome) {
 fn finds_no_address(step: &Step) -> bool {
     let command = step.searches().map(|command| command.name);
     command == Some(Name::ReadAddress) && step.ends()
-}
-
-fn reads_track(step: &Step) -> bool {
-    step.passes() && step.before.activity == Activity::ReadingTrack
-}
-
-fn ends_track(step: &Step) -> bool {
-    reads_track(step) && step.ends()
-}
-
-fn begins_track(step: &Step) -> bool {
-    step.begins().map(|command| command.name) == Some(Name::ReadTrack)
-}
-
-fn read_at_once(step: &Step, wrong: &mut Outcome) {
-    *wrong = step.instead(|machine, _| machine.activity = Activity::ReadingTrack);
-}
-
-fn read_on(_: &Step, wrong: &mut Outcome) {
-    wrong.machine.interrupt_request = false;
-    wrong.machine.activity = Activity::ReadingTrack;
 }

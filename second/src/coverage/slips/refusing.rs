@@ -64,7 +64,7 @@ const SENTENCES: &[Sentence] = &[
                 be_done,
             ),
             slip("C1-CF is taken", |step| is_no_command(step, 0xC0), be_done),
-            slip("E1-EF is taken", |step| is_no_command(step, 0xE0), be_done),
+            slip("E0-EF is taken", |step| is_no_command(step, 0xE0), be_done),
             slip("F1-FF is taken", |step| is_no_command(step, 0xF0), be_done),
             slip(
                 "INTRQ goes off",

@@ -12,10 +12,10 @@ const SENTENCES: &[Sentence] = &[
     Sentence {
         says: "Reads 0 to 3: status, TR, SR, DR.",
         slips: &[
-            slip("0 reads DR", |step| step.reads(0), read_data),
-            slip("1 reads DR", |step| step.reads(1), read_data),
-            slip("2 reads DR", |step| step.reads(2), read_data),
-            slip("3 reads TR", |step| step.reads(3), read_track),
+            slip("0 reads DR", |step| step.reads(0), give_data),
+            slip("1 reads DR", |step| step.reads(1), give_data),
+            slip("2 reads DR", |step| step.reads(2), give_data),
+            slip("3 reads TR", |step| step.reads(3), give_track),
         ],
     },
     Sentence {
@@ -66,8 +66,8 @@ const SENTENCES: &[Sentence] = &[
     },
     Sentence {
         says: "Commands: 00-0F Restore, 10-1F Seek, 20-3F Step, 40-5F Step-in, 60-7F Step-out, \
-               all Type I; even 80-9E Read Sector; A0-BF Write Sector; C0, C4 Read Address; E0, \
-               E4 Read Track; F0, F4 Write Track; D0-DF Force Interrupt.",
+               all Type I; even 80-9E Read Sector; A0-BF Write Sector; C0, C4 Read Address; .. \
+               F0, F4 Write Track; D0-DF Force Interrupt.",
         slips: &[
             slip("10-1F Restore", |step| takes(step, 0x10), as_restore),
             slip("30-3F Step-in", |step| takes(step, 0x30), as_step_in),
@@ -77,11 +77,11 @@ const SENTENCES: &[Sentence] = &[
     },
 ];
 
-fn read_data(step: &Step, wrong: &mut Outcome) {
+fn give_data(step: &Step, wrong: &mut Outcome) {
     wrong.byte = step.before.data;
 }
 
-fn read_track(step: &Step, wrong: &mut Outcome) {
+fn give_track(step: &Step, wrong: &mut Outcome) {
     wrong.byte = step.before.track;
 }
 

@@ -136,7 +136,7 @@ fn ends_protected(step: &Step) -> bool {
 }
 
 /// Bit 1 is shown on the output.
-fn show_u(step: &Step, wrong: &mut Outcome) {
+pub fn show_u(step: &Step, wrong: &mut Outcome) {
     wrong.machine.side_output = bit(step, 1);
 }
 
