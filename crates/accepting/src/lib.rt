@@ -1,4 +1,6 @@
 // What an accepted command does at once, by its class.
+#![tactic(auto)]
+
 ghost use Rattle.std.specs.Prelude.{◌≡◌};
 ghost use Rattle.accepting.specs.Accepting.{writes, held_by, asks_first, begin_regs, begin_wires, forced_flags, begin_flags, begin_head, conditions_for, works_from, begin_activity, begin_side};
 

@@ -1,4 +1,6 @@
 // What the controller does in a byte time, over one cell: its order, its activity and what it sees give an act.
+#![tactic(auto)]
+
 ghost use Rattle.std.specs.Prelude.{◌≡◌};
 ghost use Rattle.act.specs.Turns.{format_begun, job_begun, begun_activity, settle_turn, await_turn, activity_act, act_of};
 

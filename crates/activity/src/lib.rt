@@ -1,4 +1,6 @@
 // What the controller can be doing, and what a byte time sees and does.
+#![tactic(auto)]
+
 ghost use Rattle.std.specs.Prelude.{◌≡◌};
 ghost use Rattle.activity.specs.Acts.{taken_of};
 ghost use Rattle.activity.specs.Limits.{busy_in, scan_within, counts_within};
@@ -21,7 +23,7 @@ const LAST_OF_WINDOW: u8 = LONGEST_WINDOW - 1;
 const LAST_PREAMBLE: u8 = 37;
 
 // What a byte time sees: density, index pulse, the ring's last cell, lines, wires, registers and the cell that passes.
-#[derive(Drop)]
+#[derive(Clone, Copy)]
 pub struct Seen {
     pub mfm: bool,
     pub index: bool,
@@ -36,7 +38,7 @@ pub struct Seen {
 }
 
 // What the controller is doing. What its command's bits say stands in the order beside it.
-#[derive(Drop)]
+#[derive(Clone, Copy)]
 pub enum Activity {
     Idle,
     // Restore and Seek: in so many byte times comes the next decision.
@@ -70,7 +72,7 @@ pub enum Activity {
 }
 
 // What happens to registers, wires, flags and head. Where the activity becomes Idle the command has ended.
-#[derive(Drop)]
+#[derive(Clone, Copy)]
 pub enum Deed {
     Nothing,
     // A byte goes to DR.
@@ -98,7 +100,7 @@ pub enum Deed {
 }
 
 // What the activity is next, what happens, and the cell as it is left.
-#[derive(Drop)]
+#[derive(Clone, Copy)]
 pub struct Act {
     pub next: Activity,
     pub deed: Deed,

@@ -9,7 +9,7 @@ use registers::{Lines, Regs, Wires};
 use wd::{Machine, Tally};
 
 // What a call gave.
-#[derive(Drop)]
+#[derive(Clone, Copy)]
 pub enum Answer {
     Nothing,
     // A number of document 01.
@@ -21,7 +21,7 @@ pub enum Answer {
 }
 
 // The status byte that a read would give, TR, SR and DR, DRQ and INTRQ, the head's position, and the chip with its side output.
-#[derive(Drop)]
+#[derive(Clone, Copy)]
 pub struct State {
     pub status: u8,
     pub regs: Regs,

@@ -12,7 +12,7 @@ use script::{Call, Request};
 use wd::Machine;
 
 // The machine after a call, and what the call gave.
-#[derive(Drop)]
+#[derive(Clone, Copy)]
 pub struct Answered {
     pub machine: Machine,
     pub answer: Answer,

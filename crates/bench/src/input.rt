@@ -7,7 +7,7 @@ use libc::STDIN_FILENO;
 use script::{Line, Reader};
 
 // Where in the buffer the next byte stands, how many from there on are still to be taken, and whether the input is over.
-#[derive(Drop)]
+#[derive(Clone, Copy)]
 pub struct Source {
     pub at: u16,
     pub left: usize,
@@ -15,14 +15,14 @@ pub struct Source {
 }
 
 // A byte of the input; where the input is over, the newline that ends its last line.
-#[derive(Drop)]
+#[derive(Clone, Copy)]
 pub struct Taken {
     pub byte: u8,
     pub source: Source,
 }
 
 // A line, and how many bytes of output still wait after it was read.
-#[derive(Drop)]
+#[derive(Clone, Copy)]
 pub struct Read {
     pub line: Line,
     pub source: Source,

@@ -1,4 +1,5 @@
 // Works one controller and two rows of cells from a script on standard input, and prints a line for each line carried out.
+#![tactic(auto)]
 
 mod answers;
 mod calls;
@@ -14,7 +15,7 @@ use output::Buffer;
 use rows::Cells;
 
 // How a script ended: how many bytes of output wait, and the number of the line that could not be carried out, or 0.
-#[derive(Drop)]
+#[derive(Clone, Copy)]
 struct Ended {
     waiting: u16,
     failed: u64,

@@ -13,7 +13,7 @@ pub const BOTH: usize = 2 * ROOM;
 pub type Cells = [u16; BOTH];
 
 // Where the current row begins, how many cells it has, and how many the other row.
-#[derive(Drop)]
+#[derive(Clone, Copy)]
 pub struct Rows {
     pub at: usize,
     pub current: usize,

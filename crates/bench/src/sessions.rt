@@ -11,7 +11,7 @@ use scan::SHORTEST_ROW;
 use script::{Line, Request, Task};
 
 // The rows, the drive lines, how many bytes of output wait, and whether the last line could not be carried out.
-#[derive(Drop)]
+#[derive(Clone, Copy)]
 pub struct Session {
     pub rows: Rows,
     pub lines: Lines,

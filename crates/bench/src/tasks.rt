@@ -10,7 +10,7 @@ use script::{Line, Task};
 
 // The rows after a line, whether it could not be carried out, and the cells of the current row that it shows: from one
 // place up to another, none where the two are the same.
-#[derive(Drop)]
+#[derive(Clone, Copy)]
 pub struct Worked {
     pub rows: Rows,
     pub failed: bool,

@@ -1,5 +1,7 @@
 // Command bytes of the WD1793 and the WD1797: the command that a byte is, and the order that it leaves for the byte times. What
 // differs between the chips is settled here.
+#![tactic(auto)]
+
 ghost use Rattle.std.specs.Prelude.{◌≡◌};
 ghost use Rattle.command.specs.Commands.{decoded_by_both, decoded_with_u, decoded_of, class_of, job_of, is_restore};
 ghost use Rattle.command.specs.Orders.{inward_of, order_of};
@@ -9,14 +11,14 @@ pub mod sizes;
 pub mod times;
 
 // The chip whose part the controller plays. The WD1797 has a side output.
-#[derive(Drop)]
+#[derive(Clone, Copy)]
 pub enum Chip {
     Wd1793,
     Wd1797,
 }
 
 // The commands, by the data sheet's names.
-#[derive(Drop)]
+#[derive(Clone, Copy)]
 pub enum Command {
     Restore,
     Seek,
@@ -31,7 +33,7 @@ pub enum Command {
 }
 
 // What a byte loaded into the command register is.
-#[derive(Drop)]
+#[derive(Clone, Copy)]
 pub enum Decoded {
     Taken(Command),
     NoCommand,
@@ -39,7 +41,7 @@ pub enum Decoded {
 
 // How the controller takes a command up: it steps until a track is reached, steps once, loads the head and works there,
 // or ends what is under way.
-#[derive(Drop)]
+#[derive(Clone, Copy)]
 pub enum Class {
     Seeks,
     Steps,
@@ -48,7 +50,7 @@ pub enum Class {
 }
 
 // What begins once the head has settled.
-#[derive(Drop)]
+#[derive(Clone, Copy)]
 pub enum Job {
     Nothing,
     Verify,
@@ -59,7 +61,7 @@ pub enum Job {
 }
 
 // The side that an ID must have to match.
-#[derive(Drop)]
+#[derive(Clone, Copy)]
 pub enum SideAsked {
     Any,
     Only(u8),
@@ -68,7 +70,7 @@ pub enum SideAsked {
 // The command under way, its byte, whose bits `bits` reads, and the direction of its one step; and for Type II the side that an ID
 // must have, and whether its length codes are IBM's. These two are the chip's reading of the byte, so that who has the order need
 // not ask which chip it is.
-#[derive(Drop)]
+#[derive(Clone, Copy)]
 pub struct Order {
     pub command: Command,
     pub byte: u8,

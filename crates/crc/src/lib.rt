@@ -1,4 +1,6 @@
 // The CRC of every field: x^16+x^12+x^5+1, high bit first, one byte a step.
+#![tactic(auto)]
+
 ghost use Rattle.std.specs.Prelude.{◌≡◌, ◌<◌};
 ghost use Rattle.crc.specs.Crc.{crc_byte};
 ghost use Rattle.crc.specs.Table.{word};

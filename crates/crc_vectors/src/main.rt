@@ -1,4 +1,6 @@
 // Prints the CRC register over the fields of docs/VECTORS.md, a line each.
+#![tactic(auto)]
+
 ghost use Rattle.std.specs.Prelude.{◌≡◌, ◌≤◌, length};
 ghost use Rattle.crc.specs.Crc.{preset, crc_over};
 

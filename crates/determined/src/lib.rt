@@ -1,1 +1,2 @@
 // Each input has one answer: definitions and theorems, no code.
+#![tactic(auto)]

@@ -1,4 +1,6 @@
 // What a byte time's deed does to registers, DRQ, flags and head, and the step pulse that it reports.
+#![tactic(auto)]
+
 ghost use Rattle.std.specs.Prelude.{◌≡◌, cond};
 ghost use Rattle.registers.specs.declared.Pulse.TheVariants.{In, Out};
 ghost use Rattle.effects.specs.Effects.{with_crc, with_missing, with_flags, with_drq, with_lost, delivered, address_named, raised_sr, record_over, record_read, cell_taken, stepped, halted, effect_of};
@@ -7,7 +9,7 @@ use activity::Deed;
 use registers::{Flags, Head, Pulse, Regs};
 
 // What a deed can change.
-#[derive(Drop)]
+#[derive(Clone, Copy)]
 pub struct Parts {
     pub regs: Regs,
     pub drq: bool,

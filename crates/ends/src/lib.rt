@@ -1,1 +1,2 @@
 // Every command ends by itself, in time: definitions and theorems, no code.
+#![tactic(auto)]

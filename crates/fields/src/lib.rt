@@ -1,4 +1,6 @@
 // The fields that a lent row of cells holds, round the ring: its IDs one after another, and the data mark after an ID.
+#![tactic(auto)]
+
 ghost use Rattle.std.specs.Prelude.{◌≡◌};
 ghost use Rattle.fields.specs.Rings.{cells_of};
 ghost use Rattle.fields.specs.Ids.{next_id};
@@ -7,14 +9,14 @@ ghost use Rattle.fields.specs.DataMarks.{mark_behind};
 use scan::{DataMark, Heard, Id, Scan, Sought};
 
 // The next ID, and the place after its last cell.
-#[derive(Drop)]
+#[derive(Clone, Copy)]
 pub enum Found {
     Nothing,
     At { id: Id, behind: u32 },
 }
 
 // The data mark after an ID, and which cell of the window its byte is, counted from 1.
-#[derive(Drop)]
+#[derive(Clone, Copy)]
 pub enum Behind {
     Nothing,
     Mark { mark: DataMark, cell: u8 },

@@ -1,4 +1,6 @@
 // Write Track after its first index pulse.
+#![tactic(auto)]
+
 ghost use Rattle.std.specs.Prelude.{◌≡◌};
 ghost use Rattle.formatting.specs.Formatting.{until_last, presets, laid_cell, laid_crc, format_cell, format_crc_cell};
 

@@ -6,7 +6,7 @@ use activity::Activity;
 use scan::{Part, Scan};
 
 // A count of an activity, by the names of both.
-#[derive(Drop)]
+#[derive(Clone, Copy)]
 pub enum Count {
     SeekLeft,
     StopLeft,

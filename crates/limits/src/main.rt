@@ -1,6 +1,8 @@
 // Prints where refusal 2 begins. For each count of each activity, and for the ring, a line has the last number that is taken
 // and the first that is refused, each with what the four calls that take a machine give. The numbers are document 01's,
 // written out here, so that one that is wrong in the code and in its definition alike shows.
+#![tactic(auto)]
+
 ghost use Rattle.std.specs.Prelude.{◌≡◌, ◌≤◌, ◌<◌};
 ghost use Rattle.limits.specs.Counts.{activity_holding};
 ghost use Rattle.limits.specs.Calls.{room_for_cells};
@@ -17,7 +19,7 @@ use registers::Ring;
 const ROOM: usize = 10417;
 
 // A machine to try: its ring and its activity, and the number in one of them that refusal 2 is to look at.
-#[derive(Drop)]
+#[derive(Clone, Copy)]
 struct Tried {
     n: u16,
     ring: Ring,

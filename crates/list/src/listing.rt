@@ -11,7 +11,7 @@ use fields::Found;
 use picture::Shape;
 
 // The place after the lines, and how many they are.
-#[derive(Drop)]
+#[derive(Clone, Copy)]
 pub struct Listed {
     pub at: usize,
     pub ids: u16,
@@ -69,7 +69,7 @@ pub fn put_listing(out: &mut [u8], shape: Shape, track: u8, side: u8, row: &[u16
 }
 
 // What comes of a picture: so many bytes of output, so many of input taken, and whether it was refused.
-#[derive(Drop)]
+#[derive(Clone, Copy)]
 pub struct Printed {
     pub at: usize,
     pub taken: usize,

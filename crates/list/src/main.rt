@@ -1,4 +1,6 @@
 // Lists the IDs of the pictures on standard input, one picture after another.
+#![tactic(auto)]
+
 ghost use Rattle.std.specs.Prelude.{◌≡◌, ◌+◌, ◌^◌, ◌≤◌, ◌<◌, length};
 ghost use Rattle.scan.specs.Rows.{longest_row};
 ghost use Rattle.picture.specs.Layout.{longest_picture};
@@ -18,7 +20,7 @@ const MOST_PICTURES: u64 = 0x1000000000000;
 
 // How far the run has come: so many bytes of the input are held, whether a picture was listed, whether the run is over, and how
 // many bytes were handed to the C library to be written.
-#[derive(Drop)]
+#[derive(Clone, Copy)]
 struct Run {
     held: usize,
     listed: bool,

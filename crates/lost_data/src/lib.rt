@@ -1,1 +1,2 @@
 // Lost Data, under every host: definitions and theorems, no code.
+#![tactic(auto)]

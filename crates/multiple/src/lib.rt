@@ -1,1 +1,2 @@
 // A multiple read ends at a broken record: definitions and theorems, no code.
+#![tactic(auto)]

@@ -1,4 +1,6 @@
 // Pictures of tracks, and their reader.
+#![tactic(auto)]
+
 ghost use Rattle.std.specs.Prelude.{◌≡◌, ◌+◌, ◌≤◌, ◌<◌, length};
 ghost use Rattle.scan.specs.Rows.{shortest_row, longest_row};
 ghost use Rattle.picture.specs.Kinds.{kind_of, shape_with, shape_of, length_of};
@@ -10,7 +12,7 @@ ghost use Rattle.picture.specs.Reader.{refused_by, taken_from, reader_answer, re
 pub const LONGEST: usize = 3 + scan::LONGEST_ROW + (scan::LONGEST_ROW + 7) / 8;
 
 // The kinds of pictures, each with a shape and a layout.
-#[derive(Drop)]
+#[derive(Clone, Copy)]
 pub enum Kind {
     Fm,
     Mfm,
@@ -19,7 +21,7 @@ pub enum Kind {
 }
 
 // What a picture is of: the letter that stands for it, the density, and the cells of the track.
-#[derive(Drop)]
+#[derive(Clone, Copy)]
 pub struct Shape {
     pub letter: u8,
     pub mfm: bool,
@@ -27,28 +29,28 @@ pub struct Shape {
 }
 
 // Where in a picture the byte of a cell stands, and the byte with its flag bit.
-#[derive(Drop)]
+#[derive(Clone, Copy)]
 struct CellPlace {
     byte: usize,
     flags: usize,
 }
 
 // What a picture's first byte stands for.
-#[derive(Drop)]
+#[derive(Clone, Copy)]
 enum Named {
     Known(Kind),
     Unknown,
 }
 
 // What the reader says before it writes a cell: a whole picture of a kind, or a refusal by its number.
-#[derive(Drop)]
+#[derive(Clone, Copy)]
 enum Verdict {
     Sound(Kind),
     Refused(u8),
 }
 
 // The reader's answer. A refused picture is given as FM, with track and side 0 and no byte taken.
-#[derive(Drop)]
+#[derive(Clone, Copy)]
 pub struct Answer {
     pub number: u8,
     pub kind: Kind,

@@ -1,4 +1,6 @@
 // Read Sector after its ID, and Read Address.
+#![tactic(auto)]
+
 ghost use Rattle.std.specs.Prelude.{◌≡◌};
 ghost use Rattle.reading.specs.Reading.{window_missed, window_step, window_cell, record_follows, data_cell, address_begun, hunt_step, hunt_cell, address_track, address_cell};
 

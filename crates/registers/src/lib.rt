@@ -1,31 +1,33 @@
 // The chip's parts: registers, wires, flags, head, ring and lines, and what looking at them, reading and loading do.
+#![tactic(auto)]
+
 pub mod bus;
 pub mod rings;
 pub mod status_byte;
 
 // The lent row's length and the head's position on it.
-#[derive(Drop)]
+#[derive(Clone, Copy)]
 pub struct Ring {
     pub length: u16,
     pub position: u16,
 }
 
 // The track, sector and data registers.
-#[derive(Drop)]
+#[derive(Clone, Copy)]
 pub struct Regs {
     pub tr: u8,
     pub sr: u8,
     pub dr: u8,
 }
 
-#[derive(Drop)]
+#[derive(Clone, Copy)]
 pub struct Wires {
     pub drq: bool,
     pub intrq: bool,
 }
 
 // What the status byte keeps: its type, and the bits that no line and no wire gives.
-#[derive(Drop)]
+#[derive(Clone, Copy)]
 pub struct Flags {
     pub type1: bool,
     pub protected: bool,
@@ -36,21 +38,21 @@ pub struct Flags {
 }
 
 // Loaded, and the direction of the last step.
-#[derive(Drop)]
+#[derive(Clone, Copy)]
 pub struct Head {
     pub loaded: bool,
     pub inward: bool,
 }
 
 // What the last byte time saw.
-#[derive(Drop)]
+#[derive(Clone, Copy)]
 pub struct Past {
     pub ready: bool,
     pub index: bool,
 }
 
 // The conditions of a Force Interrupt: Ready coming on, Ready going off, index pulses.
-#[derive(Drop)]
+#[derive(Clone, Copy)]
 pub struct Conditions {
     pub on: bool,
     pub off: bool,
@@ -58,7 +60,7 @@ pub struct Conditions {
 }
 
 // The drive lines, which come with every call.
-#[derive(Drop)]
+#[derive(Clone, Copy)]
 pub struct Lines {
     pub ready: bool,
     pub protect: bool,
@@ -67,13 +69,13 @@ pub struct Lines {
 }
 
 // The status byte; its bits bear the data sheet's names.
-#[derive(Drop)]
+#[derive(Clone, Copy)]
 pub struct Status {
     pub byte: u8,
 }
 
 // A step pulse that a byte time reports.
-#[derive(Drop)]
+#[derive(Clone, Copy)]
 pub enum Pulse {
     Off,
     In,

@@ -1,1 +1,2 @@
 // Demand 1, safe on every input: definitions and theorems, no code.
+#![tactic(auto)]

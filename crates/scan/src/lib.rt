@@ -1,4 +1,6 @@
 // Fields on a stream of cells: marks, IDs and data marks, one cell a step, in both densities.
+#![tactic(auto)]
+
 ghost use Rattle.std.specs.Prelude.{◌≡◌, cond};
 ghost use Rattle.scan.specs.Marks.{lead_of, carries_mark, sync_run, mark_step, mark_crc};
 ghost use Rattle.scan.specs.Rows.{length_within};
@@ -24,7 +26,7 @@ pub const LAST_ID_CELL: u8 = ID_CELLS - 1;
 pub const LONGEST_WINDOW: u8 = 43;
 
 // What a cell is after those that passed.
-#[derive(Drop)]
+#[derive(Clone, Copy)]
 pub enum Passed {
     // No mark ends here; so many flagged A1 cells, at most three, stand last in a row.
     Gap(u8),
@@ -33,7 +35,7 @@ pub enum Passed {
 }
 
 // The data mark that was met, by its byte. F9 and FA are those of disks from FD1771 machines.
-#[derive(Drop)]
+#[derive(Clone, Copy)]
 pub enum DataMark {
     Fb,
     F8,
@@ -41,14 +43,14 @@ pub enum DataMark {
     Fa,
 }
 
-#[derive(Drop)]
+#[derive(Clone, Copy)]
 pub enum Sought {
     // No data mark ends here; so many flagged A1 cells stand last in a row.
     On(u8),
     Met(DataMark),
 }
 
-#[derive(Drop)]
+#[derive(Clone, Copy)]
 pub struct Id {
     pub track: u8,
     pub side: u8,
@@ -58,7 +60,7 @@ pub struct Id {
 }
 
 // What has passed of an ID after its mark: how many cells, the register, and the bytes among them.
-#[derive(Drop)]
+#[derive(Clone, Copy)]
 pub struct Part {
     pub passed: u8,
     pub crc: u16,
@@ -69,14 +71,14 @@ pub struct Part {
 }
 
 // Where the scanner for IDs stands.
-#[derive(Drop)]
+#[derive(Clone, Copy)]
 pub enum Scan {
     // In no ID; so many flagged A1 cells stand last in a row.
     Gap(u8),
     Field(Part),
 }
 
-#[derive(Drop)]
+#[derive(Clone, Copy)]
 pub enum Heard {
     On(Scan),
     // A whole ID ends here.

@@ -1,4 +1,6 @@
 // The lines of a bench script: read byte by byte, and what each asks for.
+#![tactic(auto)]
+
 mod glyphs;
 mod lines;
 mod requests;

@@ -5,7 +5,7 @@ ghost use Rattle.script.specs.Lines.{no_line, spoilt_line, lettered_line, number
 use crate::words::Word;
 
 // A line so far. Its letter is 0 until it has one; its numbers are a place and 64 cells at most.
-#[derive(Drop)]
+#[derive(Clone, Copy)]
 pub struct Line {
     pub letter: u8,
     pub count: usize,
@@ -15,7 +15,7 @@ pub struct Line {
 }
 
 // A line while its bytes come in. A comment of any length is passed over, so no line is ever held whole.
-#[derive(Drop)]
+#[derive(Clone, Copy)]
 pub struct Reader {
     pub line: Line,
     pub word: Word,

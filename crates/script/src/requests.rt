@@ -5,7 +5,7 @@ ghost use Rattle.script.specs.Requests.{power_on_request, lines_request, load_re
 use crate::lines::Line;
 
 // What is asked of the controller that is there.
-#[derive(Drop)]
+#[derive(Clone, Copy)]
 pub enum Call {
     Load { register: u8, byte: u8 },
     Read { register: u8 },
@@ -16,7 +16,7 @@ pub enum Call {
 }
 
 // What is asked of the rows of cells.
-#[derive(Drop)]
+#[derive(Clone, Copy)]
 pub enum Task {
     SetCount { count: u16 },
     Fill { place: u16, count: u16, cell: u16 },
@@ -26,7 +26,7 @@ pub enum Task {
     Swap,
 }
 
-#[derive(Drop)]
+#[derive(Clone, Copy)]
 pub enum Request {
     // A line with nothing in it but a comment.
     Nothing,

@@ -5,7 +5,7 @@ ghost use Rattle.script.specs.Words.{no_word, longer_by, word_with, is_letter, i
 use crate::glyphs;
 
 // A word so far. A letter has one byte and a number at most four, so a longer word is one of five.
-#[derive(Drop)]
+#[derive(Clone, Copy)]
 pub struct Word {
     pub size: u8,
     pub last: u8,

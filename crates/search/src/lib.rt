@@ -1,4 +1,6 @@
 // The search for an ID.
+#![tactic(auto)]
+
 ghost use Rattle.std.specs.Prelude.{◌≡◌};
 ghost use Rattle.search.specs.Search.{pulses_seen, side_matches, sector_matches, matches_for, after_match, after_record, id_found, search_step, search_cell};
 

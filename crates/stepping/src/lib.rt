@@ -1,4 +1,6 @@
 // Type I: stepping and its end.
+#![tactic(auto)]
+
 ghost use Rattle.std.specs.Prelude.{◌≡◌};
 ghost use Rattle.stepping.specs.Stepping.{stop_act, track_after, step_act, seek_decision, seek_turn, pulse_turn, stop_turn};
 

@@ -1,5 +1,7 @@
 // Stretches: byte times one after another in which nothing happens but that the ring turns and a wait grows shorter. A run
 // passes them at once, for a handful of instructions a cell.
+#![tactic(auto)]
+
 ghost use Rattle.std.specs.Prelude.{◌≡◌, ◌+◌, ◌-◌, ◌≤◌, length};
 ghost use Rattle.stretch.specs.Stretches.{least_of, wait_reach, empty_gap, search_reach, reach_of, activity_after, clear_from, stretch_ahead};
 
@@ -8,7 +10,7 @@ use registers::Ring;
 use scan::Scan;
 
 // At most so many byte times, over cells below a bound.
-#[derive(Drop)]
+#[derive(Clone, Copy)]
 pub struct Reach {
     pub most: u16,
     pub below: u16,

@@ -1,4 +1,6 @@
 // Numbers as text.
+#![tactic(auto)]
+
 ghost use Rattle.std.specs.Prelude.{◌≡◌, ◌≤◌};
 ghost use Rattle.text.specs.Hex.{digit_of, hex_of};
 ghost use Rattle.text.specs.Decimal.{figure_of, figures_of, places_of};

@@ -1,11 +1,13 @@
 // A byte transferred between host and track. DRQ is on after such a byte time, so it ends a run: a run that begins with one has
 // no other byte time, and costs a third of what the loop's byte time costs.
+#![tactic(auto)]
+
 ghost use Rattle.std.specs.Prelude.{◌≡◌};
 ghost use Rattle.transfer.specs.Transfers.{read_transfer, write_transfer, format_transfer, transfer_in};
 
 use activity::{Activity, Seen};
 
-#[derive(Drop)]
+#[derive(Clone, Copy)]
 pub enum Transfer {
     Nothing,
     // The activity and DR after the byte time, and the cell as it is left.

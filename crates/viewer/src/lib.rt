@@ -1,4 +1,6 @@
 // The viewer: the data cells of a sector, as a part of the side that they stand on.
+#![tactic(auto)]
+
 ghost use Rattle.std.specs.Prelude.{◌≡◌, true, ◌-◌, length};
 ghost use Rattle.scan.specs.Rows.{length_within};
 ghost use Rattle.viewer.specs.Sectors.{register_over, span_behind, span_in, behind_in, span_on};
@@ -7,14 +9,14 @@ ghost use Rattle.viewer.specs.Views.{cells_within, view_refusal, second_place, p
 use fields::{Behind, Found};
 
 // Where a side has the data cells of a sector: from one cell up to another.
-#[derive(Drop)]
+#[derive(Clone, Copy)]
 pub enum Span {
     Nowhere,
     Cells { from: usize, to: usize },
 }
 
 // The side that they stand on, or the number that the viewer refuses with.
-#[derive(Drop)]
+#[derive(Clone, Copy)]
 pub enum Place {
     Zero { from: usize, to: usize },
     One { from: usize, to: usize },

@@ -1,4 +1,6 @@
 // The controller: registers, wires, flags, head, ring and activity of a WD1793 or WD1797, and the calls that a host makes of it.
+#![tactic(auto)]
+
 ghost use Rattle.std.specs.Prelude.{◌≡◌, ◌+◌, ◌≤◌, ◌<◌, length};
 ghost use Rattle.wd.specs.Machines.{valid_of, clear_flags, fresh_machine, power_on};
 ghost use Rattle.wd.specs.Reads.{status_of, with_bus, read_register};
@@ -21,7 +23,7 @@ use transfer::Transfer;
 const SHORTEST: u16 = scan::SHORTEST_ROW as u16;
 
 // The chip, the ring's length and the density are those of power-on. SSO is the side output, which a WD1793 leaves off.
-#[derive(Drop)]
+#[derive(Clone, Copy)]
 pub struct Machine {
     pub chip: Chip,
     pub sso: bool,
@@ -37,26 +39,26 @@ pub struct Machine {
 }
 
 // The answers: a number of document 01's table, 0 where the call was done, and the machine after the call.
-#[derive(Drop)]
+#[derive(Clone, Copy)]
 pub struct Started {
     pub number: u8,
     pub machine: Machine,
 }
 
-#[derive(Drop)]
+#[derive(Clone, Copy)]
 pub struct Loaded {
     pub number: u8,
     pub machine: Machine,
 }
 
-#[derive(Drop)]
+#[derive(Clone, Copy)]
 pub struct Read {
     pub number: u8,
     pub byte: u8,
     pub machine: Machine,
 }
 
-#[derive(Drop)]
+#[derive(Clone, Copy)]
 pub struct Passed {
     pub number: u8,
     pub pulse: Pulse,
@@ -64,14 +66,14 @@ pub struct Passed {
 }
 
 // Byte times that passed, and step pulses in and out.
-#[derive(Drop)]
+#[derive(Clone, Copy)]
 pub struct Tally {
     pub passed: u16,
     pub inward: u16,
     pub outward: u16,
 }
 
-#[derive(Drop)]
+#[derive(Clone, Copy)]
 pub struct Ran {
     pub number: u8,
     pub tally: Tally,
@@ -79,7 +81,7 @@ pub struct Ran {
 }
 
 // What a byte time makes of the machine and the cell, before it is handed back.
-#[derive(Drop)]
+#[derive(Clone, Copy)]
 pub struct Turn {
     pub machine: Machine,
     pub cell: u16,

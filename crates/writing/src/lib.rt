@@ -1,4 +1,6 @@
 // Write Sector after its ID.
+#![tactic(auto)]
+
 ghost use Rattle.std.specs.Prelude.{◌≡◌, ◌≤◌};
 ghost use Rattle.writing.specs.Writing.{last_kept, last_zero, mark_place, mark_cell, preamble_cell, preamble_next, preamble_deed, preamble_turn, put_cell};
 
