@@ -6,6 +6,7 @@ ghost use Rattle.text.specs.Hex.{digit_of, hex_of};
 ghost use Rattle.text.specs.Decimal.{figure_of, figures_of, places_of};
 
 // A capital hexadecimal digit, in ASCII; of a larger number the last one.
+#[tactic(auto, unfolding(crate::specs::Hex::digit_of))]
 pub fn digit(n: u16) -> u8
     ensures { result ≡ digit_of n }
 {
@@ -14,6 +15,7 @@ pub fn digit(n: u16) -> u8
 }
 
 // Four capital hexadecimal digits.
+#[tactic(auto, unfolding(crate::specs::Hex::hex_of))]
 pub fn hex(n: u16) -> [u8; 4]
     ensures { result ≡ hex_of n }
 {
@@ -21,6 +23,7 @@ pub fn hex(n: u16) -> [u8; 4]
 }
 
 // A decimal digit, in ASCII; of a larger number the last one.
+#[tactic(auto, unfolding(crate::specs::Decimal::figure_of))]
 fn figure(n: u16) -> u8
     ensures { result ≡ figure_of n }
 {
@@ -28,6 +31,7 @@ fn figure(n: u16) -> u8
 }
 
 // Five decimal digits, the first of them 0 where the number has fewer.
+#[tactic(auto, unfolding(crate::specs::Decimal::figures_of))]
 pub fn figures(n: u16) -> [u8; 5]
     ensures { result ≡ figures_of n }
 {
@@ -41,6 +45,7 @@ pub fn figures(n: u16) -> [u8; 5]
 }
 
 // How many decimal digits a number has: as few as hold it, and 1 for 0.
+#[tactic(auto, unfolding(crate::specs::Decimal::places_of))]
 pub fn places(n: u16) -> usize
     ensures value { result ≡ places_of n }
     ensures lower_bound { (1 ≤ result) × (result ≤ 5) }

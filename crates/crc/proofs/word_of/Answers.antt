@@ -1,12 +1,8 @@
--- `crc::word_of` meets its contract: a word is the part of its line that the line's number has there. Assumes nothing.
-use mathlib.Core.Path.{◌≡◌, ap, ◌∙◌}
-use Prim.Native.Nat.{ℕ, zero, suc, ◌+◌, ◌*◌, ◌/◌, ◌%◌, ◌^◌, ◌<◌}
-use native.Mathlib.Omega.{arith}
-use borrow.Author.Rules.{rules}
+-- A word is the part of its line that the line's number has there.
+use Rattle.std.proofs.Common.{◌≡◌, ℕ, zero, suc, ◌+◌, ◌*◌, ◌/◌, ◌%◌, ◌^◌, ◌<◌, ap, ◌∙◌, arith}
 use Rattle.crc.specs.Table.{word, four_of}
 use Rattle.crc.proofs.Laws.{bits_below}
-use Rattle.crc.proofs.word_of.Statement.{statement}
-use Rattle.crc.proofs.word_of.Tie as tie
+use Rattle.crc.proofs.word_of.Goals as goal
 
 below : (i : ℕ) → i < 256 → word i < 65536
 below i h = bits_below 8 (i * 256) (omega arith)
@@ -29,27 +25,12 @@ part w n (suc (suc zero)) h p q r s = omega arith
 part w n (suc (suc (suc zero))) h p q r s = omega arith
 part w n (suc (suc (suc (suc j)))) h p q r s = no_more h
 
-four-requires : tie.Need-four-requires
-four-requires c κs = omega arith
-
-mul-result : tie.Need-overflow-mul-result
-mul-result c = search rules
-
-cast-result : tie.Need-overflow-cast-result
-cast-result c = search rules
-
-shr-result : tie.Need-overflow-shr-result
-shr-result c = search rules
-
-cast-result-2 : tie.Need-overflow-cast-result-2
-cast-result-2 c = omega arith
-
-returns : tie.Need-returns
+pub returns : goal.returns
 unfolding four_of
 returns c =
-    let i = c.before.args.byte in
+    let i = c.args.byte in
     let first = i / 4 * 4 in
-    let small = c.before.requires in
+    let small = c.requires in
     let whole : first + i % 4 ≡ i = omega arith in
     ap (λ (four : ℕ). four / 2 ^ (i % 4 * 16) % 65536) c.four.ensures
     ∙ part word first (i % 4) (omega arith)
@@ -58,6 +39,3 @@ returns c =
     (below (first + 2) (omega (arith, small)))
     (below (first + 3) (omega (arith, small)))
     ∙ ap word whole
-
-pub word-of-spec : {M : Type 1} → statement M
-word-of-spec = tie.close (tie.spec four-requires mul-result cast-result shr-result cast-result-2 returns)
