@@ -86,6 +86,7 @@ pub enum Heard {
 }
 
 // Whether a track may have so many cells.
+#[tactic(auto, unfolding(crate::specs::Rows::length_within))]
 pub fn length_within(length: usize) -> bool
     ensures { result ≡ length_within length }
 {
@@ -93,18 +94,21 @@ pub fn length_within(length: usize) -> bool
 }
 
 // How many flagged A1 cells stand before a mark's byte.
+#[tactic(auto, unfolding(crate::specs::Marks::lead_of))]
 pub fn lead(mfm: bool) -> u8
     ensures { result ≡ lead_of mfm }
 {
     if mfm { SYNCS } else { 0 }
 }
 
+#[tactic(auto, unfolding(crate::specs::Marks::carries_mark))]
 fn carries_mark(mfm: bool, cell: u16) -> bool
     ensures { result ≡ carries_mark mfm cell }
 {
     if mfm { cell < 256 } else { cell / 256 == 1 }
 }
 
+#[tactic(auto, unfolding(crate::specs::Marks::sync_run))]
 fn run_on(cell: u16, run: u8) -> u8
     ensures { result ≡ sync_run cell run }
 {
@@ -116,6 +120,7 @@ fn run_on(cell: u16, run: u8) -> u8
 }
 
 // One cell more for whoever waits for a mark, with the flagged A1 cells in a row before it.
+#[tactic(auto, unfolding(crate::specs::Marks::mark_step))]
 pub fn pass(mfm: bool, cell: u16, run: u8) -> Passed
     ensures { result ≡ mark_step mfm cell run }
 {
@@ -127,6 +132,7 @@ pub fn pass(mfm: bool, cell: u16, run: u8) -> Passed
 }
 
 // The register after the cells of a mark.
+#[tactic(auto, unfolding(crate::specs::Marks::mark_crc, crate::specs::Marks::mark_bytes, crc::specs::Crc::crc_over))]
 pub fn mark_crc(mfm: bool, byte: u8) -> u16
     ensures { result ≡ mark_crc mfm byte }
 {
@@ -138,6 +144,7 @@ pub fn mark_crc(mfm: bool, byte: u8) -> u16
 }
 
 // Whether a data mark is one of the density: F9 and FA are data marks in FM only.
+#[tactic(auto, unfolding(crate::specs::DataMarks::density_has))]
 fn density_has(mfm: bool, mark: DataMark) -> bool
     ensures { result ≡ density_has mfm mark }
 {
@@ -158,6 +165,7 @@ fn met_in(mfm: bool, mark: DataMark) -> Sought
     }
 }
 
+#[tactic(auto, unfolding(crate::specs::DataMarks::data_mark_of))]
 fn data_mark(mfm: bool, byte: u8) -> Sought
     ensures { result ≡ data_mark_of mfm byte }
 {
@@ -170,6 +178,7 @@ fn data_mark(mfm: bool, byte: u8) -> Sought
     }
 }
 
+#[tactic(auto, unfolding(crate::specs::DataMarks::data_mark_in))]
 fn data_mark_in(mfm: bool, passed: Passed) -> Sought
     ensures { result ≡ data_mark_in mfm passed }
 {
@@ -180,12 +189,14 @@ fn data_mark_in(mfm: bool, passed: Passed) -> Sought
 }
 
 // One cell more for whoever waits for a data mark; other marks are passed over.
+#[tactic(auto, unfolding(crate::specs::DataMarks::data_mark_step))]
 pub fn seek_data(mfm: bool, cell: u16, run: u8) -> Sought
     ensures { result ≡ data_mark_step mfm cell run }
 {
     data_mark_in(mfm, pass(mfm, cell, run))
 }
 
+#[tactic(auto, unfolding(crate::specs::DataMarks::mark_byte))]
 pub fn mark_byte(mark: DataMark) -> u8
     ensures { result ≡ mark_byte mark }
 {
@@ -197,6 +208,7 @@ pub fn mark_byte(mark: DataMark) -> u8
     }
 }
 
+#[tactic(auto, unfolding(crate::specs::DataMarks::is_deleted))]
 pub fn is_deleted(mark: DataMark) -> bool
     ensures { result ≡ is_deleted mark }
 {
@@ -209,12 +221,14 @@ pub fn is_deleted(mark: DataMark) -> bool
 }
 
 // How many cells after an ID may hold its data mark.
+#[tactic(auto, unfolding(crate::specs::DataMarks::window_of))]
 pub fn window(mfm: bool) -> u8
     ensures { result ≡ window_of mfm }
 {
     if mfm { LONGEST_WINDOW } else { 30 }
 }
 
+#[tactic(auto, unfolding(crate::specs::Ids::id_begun))]
 fn begin(mfm: bool, byte: u8) -> Scan
     ensures { result ≡ id_begun mfm byte }
 {
@@ -239,6 +253,7 @@ fn pick(on: bool, a: u8, b: u8) -> u8
 }
 
 // An unflagged cell of an ID.
+#[tactic(auto, unfolding(crate::specs::Ids::id_byte_step, crate::specs::Ids::pushed_of, crate::specs::Ids::whole_of))]
 fn add(part: Part, byte: u8) -> Heard
     ensures { result ≡ id_byte_step part byte }
 {
@@ -264,6 +279,7 @@ fn add(part: Part, byte: u8) -> Heard
     }
 }
 
+#[tactic(auto, unfolding(crate::specs::Ids::run_in))]
 fn run_in(scan: Scan) -> u8
     ensures { result ≡ run_in scan }
 {
@@ -274,6 +290,7 @@ fn run_in(scan: Scan) -> u8
 }
 
 // A cell that ends no mark: an ID's next if it may be, and else the gap's.
+#[tactic(auto, unfolding(crate::specs::Ids::id_cell_step))]
 fn grow(cell: u16, run: u8, scan: Scan) -> Heard
     ensures { result ≡ id_cell_step cell run scan }
 {
@@ -290,6 +307,7 @@ fn grow(cell: u16, run: u8, scan: Scan) -> Heard
 }
 
 // A mark begins anew, whatever the scanner was in.
+#[tactic(auto, unfolding(crate::specs::Ids::id_mark_step))]
 fn look(mfm: bool, cell: u16, scan: Scan, passed: Passed) -> Heard
     ensures { result ≡ id_mark_step mfm cell scan passed }
 {
@@ -300,6 +318,7 @@ fn look(mfm: bool, cell: u16, scan: Scan, passed: Passed) -> Heard
 }
 
 // One cell more for whoever waits for an ID.
+#[tactic(auto, unfolding(crate::specs::Ids::id_step))]
 pub fn hear(mfm: bool, cell: u16, scan: Scan) -> Heard
     ensures { result ≡ id_step mfm cell scan }
 {
