@@ -108,6 +108,7 @@ pub struct Act {
 }
 
 // The byte that a written cell takes.
+#[tactic(auto, unfolding(crate::specs::Acts::taken_of))]
 pub fn taken(s: Seen) -> u8
     ensures { result ≡ taken_of s }
 {
@@ -115,6 +116,7 @@ pub fn taken(s: Seen) -> u8
 }
 
 // A command is under way.
+#[tactic(auto, unfolding(crate::specs::Limits::busy_in))]
 pub fn busy(activity: Activity) -> bool
     ensures { result ≡ busy_in activity }
 {
@@ -124,6 +126,7 @@ pub fn busy(activity: Activity) -> bool
     }
 }
 
+#[tactic(auto, unfolding(crate::specs::Limits::scan_within))]
 fn scan_within(scan: Scan) -> bool
     ensures { result ≡ scan_within scan }
 {
@@ -134,6 +137,7 @@ fn scan_within(scan: Scan) -> bool
 }
 
 // No count is above the largest that its activity holds.
+#[tactic(auto, unfolding(crate::specs::Limits::counts_within))]
 pub fn within(activity: Activity) -> bool
     ensures { result ≡ counts_within activity }
 {

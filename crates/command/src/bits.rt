@@ -39,6 +39,7 @@ const AT_NOT_READY: u8 = 1;
 const AT_READY: u8 = 0;
 
 // The bit of a byte at a place. A byte has no bits from place 8 on.
+#[tactic(auto, unfolding(common::specs::Bits::bit_of))]
 fn bit(byte: u8, place: u8) -> bool
     ensures { result ≡ bit_of byte place }
 {
@@ -50,6 +51,7 @@ fn bit(byte: u8, place: u8) -> bool
 }
 
 // Type I: TR moves with the step (the data sheet's u).
+#[tactic(auto, unfolding(crate::specs::Bits::updates_track))]
 pub fn updates_track(byte: u8) -> bool
     ensures { result ≡ updates_track byte }
 {
@@ -57,6 +59,7 @@ pub fn updates_track(byte: u8) -> bool
 }
 
 // Type I: the head is loaded at acceptance (h), or else unloaded.
+#[tactic(auto, unfolding(crate::specs::Bits::loads_head))]
 pub fn loads_head(byte: u8) -> bool
     ensures { result ≡ loads_head byte }
 {
@@ -64,6 +67,7 @@ pub fn loads_head(byte: u8) -> bool
 }
 
 // Type I: the track is verified once the stepping is over (V).
+#[tactic(auto, unfolding(crate::specs::Bits::verifies_track))]
 pub fn verifies_track(byte: u8) -> bool
     ensures { result ≡ verifies_track byte }
 {
@@ -71,6 +75,7 @@ pub fn verifies_track(byte: u8) -> bool
 }
 
 // Type II: the records that follow are read or written too (m).
+#[tactic(auto, unfolding(crate::specs::Bits::is_multiple))]
 pub fn is_multiple(byte: u8) -> bool
     ensures { result ≡ is_multiple byte }
 {
@@ -78,6 +83,7 @@ pub fn is_multiple(byte: u8) -> bool
 }
 
 // Types II and III: the head settles first (E).
+#[tactic(auto, unfolding(crate::specs::Bits::settles_first))]
 pub fn settles_first(byte: u8) -> bool
     ensures { result ≡ settles_first byte }
 {
@@ -85,6 +91,7 @@ pub fn settles_first(byte: u8) -> bool
 }
 
 // What Types II and III put on the side output: on the WD1797 U. The WD1793 has no such output, and its flag stays off.
+#[tactic(auto, unfolding(crate::specs::Bits::selects_side))]
 pub fn selects_side(chip: Chip, byte: u8) -> bool
     ensures { result ≡ selects_side chip byte }
 {
@@ -95,6 +102,7 @@ pub fn selects_side(chip: Chip, byte: u8) -> bool
 }
 
 // A side by its flag.
+#[tactic(auto, unfolding(crate::specs::Bits::side_of))]
 fn side_of(flag: bool) -> u8
     ensures { result ≡ side_of flag }
 {
@@ -102,6 +110,7 @@ fn side_of(flag: bool) -> u8
 }
 
 // Type II: the side that an ID must have: on the WD1793 any, or with C the one that S names; on the WD1797 the one that U names.
+#[tactic(auto, unfolding(crate::specs::Bits::side_asked))]
 pub fn side_asked(chip: Chip, byte: u8) -> SideAsked
     ensures { result ≡ side_asked chip byte }
 {
@@ -118,6 +127,7 @@ pub fn side_asked(chip: Chip, byte: u8) -> SideAsked
 }
 
 // Type II: the length codes of an ID are IBM's: on the WD1793 always, on the WD1797 with L.
+#[tactic(auto, unfolding(crate::specs::Bits::ibm_lengths))]
 pub fn ibm_lengths(chip: Chip, byte: u8) -> bool
     ensures { result ≡ ibm_lengths chip byte }
 {
@@ -128,6 +138,7 @@ pub fn ibm_lengths(chip: Chip, byte: u8) -> bool
 }
 
 // Write Sector: the data mark that it writes.
+#[tactic(auto, unfolding(crate::specs::Bits::mark_written))]
 pub fn mark_written(byte: u8) -> DataMark
     ensures { result ≡ mark_written byte }
 {

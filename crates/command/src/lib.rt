@@ -80,6 +80,7 @@ pub struct Order {
 }
 
 // The commands of Type III with the flag U, which the WD1797 alone takes.
+#[tactic(auto, unfolding(crate::specs::Commands::decoded_with_u))]
 fn decode_with_u(chip: Chip, byte: u8) -> Decoded
     ensures { result ≡ decoded_with_u chip byte }
 {
@@ -94,6 +95,7 @@ fn decode_with_u(chip: Chip, byte: u8) -> Decoded
 }
 
 // The commands that both chips take. Read Sector has no data mark to choose, so its bit 0 must be off.
+#[tactic(auto, unfolding(crate::specs::Commands::decoded_by_both))]
 fn decode_by_both(byte: u8) -> Decoded
     ensures { result ≡ decoded_by_both byte }
 {
@@ -119,6 +121,7 @@ fn decode_by_both(byte: u8) -> Decoded
 }
 
 // The command that a byte is on a chip.
+#[tactic(auto, unfolding(crate::specs::Commands::decoded_of))]
 pub fn decode(chip: Chip, byte: u8) -> Decoded
     ensures { result ≡ decoded_of chip byte }
 {
@@ -130,6 +133,7 @@ pub fn decode(chip: Chip, byte: u8) -> Decoded
 }
 
 // How a command is taken up.
+#[tactic(auto, unfolding(crate::specs::Commands::class_of))]
 pub fn class_of(command: Command) -> Class
     ensures { result ≡ class_of command }
 {
@@ -143,6 +147,7 @@ pub fn class_of(command: Command) -> Class
 }
 
 // What a command begins once the head has settled.
+#[tactic(auto, unfolding(crate::specs::Commands::job_of))]
 pub fn job_of(command: Command) -> Job
     ensures { result ≡ job_of command }
 {
@@ -158,6 +163,7 @@ pub fn job_of(command: Command) -> Job
 }
 
 // Restore is a Seek with a rule of its own where it begins and where it stops.
+#[tactic(auto, unfolding(crate::specs::Commands::is_restore))]
 pub fn is_restore(command: Command) -> bool
     ensures { result ≡ is_restore command }
 {
@@ -168,6 +174,7 @@ pub fn is_restore(command: Command) -> bool
 }
 
 // The direction of a command's step, from that of the last one.
+#[tactic(auto, unfolding(crate::specs::Orders::inward_of))]
 fn inward(command: Command, last: bool) -> bool
     ensures { result ≡ inward_of command last }
 {
@@ -179,6 +186,7 @@ fn inward(command: Command, last: bool) -> bool
 }
 
 // The order that a command and its byte give on a chip, from the direction of the last step.
+#[tactic(auto, unfolding(crate::specs::Orders::order_of))]
 pub fn order_of(chip: Chip, command: Command, byte: u8, last: bool) -> Order
     ensures { result ≡ order_of chip command byte last }
 {

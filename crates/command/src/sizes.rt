@@ -11,6 +11,7 @@ const SIZES: [u16; 4] = [128, 256, 512, LARGEST_SIZE];
 const OTHER_SIZES: [u16; 4] = [256, 512, LARGEST_SIZE, 128];
 
 // The bytes of a data field by IBM's codes, and the bound of the counts of those who read and write one.
+#[tactic(auto, unfolding(crate::specs::Sizes::size_of))]
 pub fn size(length: u8) -> u16
     ensures value { result ≡ size_of length }
     ensures upper_bound { result ≤ largest_size }
@@ -19,6 +20,7 @@ pub fn size(length: u8) -> u16
 }
 
 // The bytes of a data field by the codes that are asked for.
+#[tactic(auto, unfolding(crate::specs::Sizes::field_size))]
 pub fn field_size(ibm: bool, length: u8) -> u16
     ensures value { result ≡ field_size ibm length }
     ensures upper_bound { result ≤ largest_size }

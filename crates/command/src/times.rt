@@ -11,6 +11,7 @@ pub const SETTLING_MFM: u16 = 938;
 const STEP_TIMES: [[u16; 4]; 2] = [[94, 188, 313, SETTLING_FM], [188, 375, 625, SETTLING_MFM]];
 
 // The byte times of a step, by the density and the rate code of a Type I byte.
+#[tactic(auto, unfolding(crate::specs::Times::step_time_of))]
 pub fn step_time(mfm: bool, byte: u8) -> u16
     ensures { result ≡ step_time_of mfm byte }
 {
@@ -19,6 +20,7 @@ pub fn step_time(mfm: bool, byte: u8) -> u16
 }
 
 // The byte times that the head settles.
+#[tactic(auto, unfolding(crate::specs::Times::settle_time_of))]
 pub fn settle_time(mfm: bool) -> u16
     ensures { result ≡ settle_time_of mfm }
 {

@@ -23,6 +23,7 @@ pub enum Behind {
 }
 
 // The cell at a place. Places go on round the ring: after the last cell comes the first again. A row of no cells holds 0.
+#[tactic(auto, unfolding(crate::specs::Rings::cells_of))]
 pub fn cell(row: &[u16], place: usize) -> u16
     ensures { result ≡ cells_of row.now place }
 {
@@ -33,6 +34,7 @@ pub fn cell(row: &[u16], place: usize) -> u16
 }
 
 // The first ID that stands whole in the cells from one place up to another. To find the next one, go on from the place handed back.
+#[tactic(auto, unfolding(crate::specs::Ids::next_id))]
 pub fn next_id(row: &[u16], mfm: bool, from: u32, to: u32) -> Found
     ensures { result ≡ next_id mfm row.now from to }
 {
@@ -53,6 +55,7 @@ pub fn next_id(row: &[u16], mfm: bool, from: u32, to: u32) -> Found
 }
 
 // The first data mark in the window after an ID, whose last cell stands just before the place.
+#[tactic(auto, unfolding(crate::specs::DataMarks::mark_behind))]
 pub fn mark_behind(row: &[u16], mfm: bool, place: u32) -> Behind
     ensures { result ≡ mark_behind mfm row.now place }
 {

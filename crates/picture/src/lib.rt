@@ -59,6 +59,7 @@ pub struct Answer {
     pub taken: usize,
 }
 
+#[tactic(auto, unfolding(crate::specs::Kinds::kind_of))]
 fn kind_of(byte: u8) -> Named
     ensures { result ≡ kind_of byte }
 {
@@ -82,6 +83,7 @@ fn shaped(letter: u8, mfm: bool, length: usize) -> Shape
 }
 
 impl Kind {
+    #[tactic(auto, unfolding(crate::specs::Kinds::shape_of))]
     pub fn shape(self) -> Shape
         ensures value { result ≡ shape_of self }
         ensures shortest_row_le_length { (shortest_row ≤ result.length) × (result.length ≤ longest_row) }
@@ -104,6 +106,7 @@ impl Kind {
     }
 
     // The layout: the data bytes stand after kind, track and side, and the flag bytes after them.
+    #[tactic(auto, unfolding(crate::specs::Layout::cell_place, crate::specs::Layout::body_length))]
     fn place(self, cell: usize) -> CellPlace
         requires { cell < length_of self }
         ensures value { result ≡ cell_place self cell }
@@ -117,6 +120,7 @@ impl Kind {
     }
 
     // The bytes after the kind's: track, side, data and flags.
+    #[tactic(auto, unfolding(crate::specs::Layout::body_length))]
     fn body(self) -> usize
         ensures value { result ≡ body_length self }
         ensures lower_bound { (2 ≤ result) × (result < longest_picture) }
@@ -127,6 +131,7 @@ impl Kind {
 }
 
 // The bits of the last flag byte after that of the last cell are 0. Where every bit is a cell's, there are none.
+#[tactic(auto, unfolding(crate::specs::Layout::spare_clear))]
 fn spare_clear(cells: usize, last: u8) -> bool
     ensures { result ≡ spare_clear cells last }
 {
@@ -141,6 +146,7 @@ fn padding_clear(kind: Kind, bytes: &[u8]) -> bool
     spare_clear(kind.length(), bytes[last])
 }
 
+#[tactic(auto, unfolding(crate::specs::Layout::body_length, crate::specs::Reader::sound_of))]
 fn sound(kind: Kind, bytes: &[u8]) -> bool
     requires { body_length kind < length bytes.now }
     ensures { result ≡ sound_of kind bytes.now }
@@ -148,6 +154,7 @@ fn sound(kind: Kind, bytes: &[u8]) -> bool
     (bytes[2] <= 1) & padding_clear(kind, bytes)
 }
 
+#[tactic(auto, unfolding(crate::specs::Reader::judged_for))]
 fn judge_for(kind: Kind, bytes: &[u8], room: usize) -> Verdict
     ensures { result ≡ judged_for bytes.now room kind }
 {
@@ -163,6 +170,7 @@ fn judge_for(kind: Kind, bytes: &[u8], room: usize) -> Verdict
     Verdict::Refused(10)
 }
 
+#[tactic(auto, unfolding(crate::specs::Reader::judged_of))]
 fn judge_named(named: Named, bytes: &[u8], room: usize) -> Verdict
     ensures { result ≡ judged_of bytes.now room named }
 {
@@ -173,6 +181,7 @@ fn judge_named(named: Named, bytes: &[u8], room: usize) -> Verdict
 }
 
 // Whether the bytes begin with a picture that fits a room of so many cells.
+#[tactic(auto, unfolding(crate::specs::Reader::verdict_of))]
 fn judge(bytes: &[u8], room: usize) -> Verdict
     ensures { result ≡ verdict_of bytes.now room }
 {
@@ -183,6 +192,7 @@ fn judge(bytes: &[u8], room: usize) -> Verdict
 }
 
 // A cell: its byte, and 256 where its flag bit is 1. Eight cells share a flag byte, the first at bit 7.
+#[tactic(auto, unfolding(crate::specs::Layout::cell_from, crate::specs::Layout::flag_in))]
 fn cell(byte: u8, flags: u8, place: usize) -> u16
     ensures { result ≡ cell_from byte flags place }
 {
@@ -190,6 +200,7 @@ fn cell(byte: u8, flags: u8, place: usize) -> u16
 }
 
 // A cell of a picture.
+#[tactic(auto, unfolding(crate::specs::Layout::picture_cell))]
 fn cell_in(kind: Kind, bytes: &[u8], i: usize) -> u16
     requires { (body_length kind < length bytes.now) × (i < length_of kind) }
     ensures { result ≡ picture_cell kind bytes.now i }
@@ -201,6 +212,7 @@ fn cell_in(kind: Kind, bytes: &[u8], i: usize) -> u16
 }
 
 // The cells of a picture go to the room's first places.
+#[tactic(auto, unfolding(common::specs::Laid::laid_row, crate::specs::Reader::room_with_picture))]
 fn lay(kind: Kind, bytes: &[u8], room: &mut [u16])
     requires { (body_length kind < length bytes.now) × (length_of kind ≤ length room.old) }
     ensures { room.new ≡ room_with_picture kind bytes.now room.old }
@@ -213,6 +225,7 @@ fn lay(kind: Kind, bytes: &[u8], room: &mut [u16])
     }
 }
 
+#[tactic(auto, unfolding(crate::specs::Reader::refused_by))]
 fn refused(number: u8) -> Answer
     ensures { result ≡ refused_by number }
 {
@@ -225,6 +238,7 @@ fn refused(number: u8) -> Answer
     }
 }
 
+#[tactic(auto, unfolding(crate::specs::Reader::taken_from))]
 fn taken(kind: Kind, bytes: &[u8]) -> Answer
     requires { body_length kind < length bytes.now }
     ensures { result ≡ taken_from bytes.now kind }
@@ -240,6 +254,7 @@ fn taken(kind: Kind, bytes: &[u8]) -> Answer
 }
 
 // Reads the first picture of the bytes into the room.
+#[tactic(auto, unfolding(crate::specs::Reader::reader_answer, crate::specs::Reader::reader_room, crate::specs::Reader::answer_of, crate::specs::Reader::filled_of))]
 pub fn read(bytes: &[u8], room: &mut [u16]) -> Answer
     ensures value { result ≡ reader_answer bytes.now (length room.old) }
     ensures room_after { room.new ≡ reader_room bytes.now room.old }

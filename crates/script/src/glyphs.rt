@@ -2,6 +2,7 @@
 ghost use Rattle.std.specs.Prelude.{◌≡◌};
 ghost use Rattle.script.specs.Glyphs.{is_capital, value_of};
 
+#[tactic(auto, unfolding(crate::specs::Glyphs::is_capital))]
 pub fn is_capital(byte: u8) -> bool
     ensures { result ≡ is_capital byte }
 {
@@ -9,6 +10,7 @@ pub fn is_capital(byte: u8) -> bool
 }
 
 // The value of a hexadecimal digit, upper or lower case; 16 of any other byte.
+#[tactic(auto, unfolding(crate::specs::Glyphs::value_of))]
 pub fn digit_value(byte: u8) -> u16
     ensures { result ≡ value_of byte }
 {

@@ -25,6 +25,7 @@ pub struct Reader {
 }
 
 impl Line {
+    #[tactic(auto, unfolding(crate::specs::Lines::no_line))]
     fn none() -> Line
         ensures { result ≡ no_line }
     {
@@ -36,6 +37,7 @@ impl Line {
         }
     }
 
+    #[tactic(auto, unfolding(crate::specs::Lines::spoilt_line))]
     fn spoil(self) -> Line
         ensures { result ≡ spoilt_line self }
     {
@@ -45,6 +47,7 @@ impl Line {
     }
 
     // The first word is the letter.
+    #[tactic(auto, unfolding(crate::specs::Lines::lettered_line))]
     fn with_letter(self, word: Word) -> Line
         ensures { result ≡ lettered_line self word }
     {
@@ -57,6 +60,7 @@ impl Line {
     }
 
     // Each later word is a number.
+    #[tactic(auto, unfolding(crate::specs::Lines::numbered_line))]
     fn with_number(self, word: Word) -> Line
         ensures { result ≡ numbered_line self word }
     {
@@ -74,6 +78,7 @@ impl Line {
     }
 
     // The line with the word that ends here; between two spaces there is none.
+    #[tactic(auto, unfolding(crate::specs::Lines::line_with))]
     fn with(self, word: Word) -> Line
         ensures { result ≡ line_with self word }
     {
@@ -89,6 +94,7 @@ impl Line {
 
 impl Reader {
     // Before a line's first byte.
+    #[tactic(auto, unfolding(crate::specs::Lines::line_start))]
     pub fn start() -> Reader
         ensures { result ≡ line_start }
     {
@@ -101,6 +107,7 @@ impl Reader {
     }
 
     // After a word, and in a comment or not.
+    #[tactic(auto, unfolding(crate::specs::Lines::word_end))]
     fn end_word(self, comment: bool) -> Reader
         ensures { result ≡ word_end self comment }
     {
@@ -115,6 +122,7 @@ impl Reader {
     }
 
     // After a carriage return, which belongs to the line's end if a newline comes next.
+    #[tactic(auto, unfolding(crate::specs::Lines::cr_held))]
     fn hold_cr(self) -> Reader
         ensures { result ≡ cr_held self }
     {
@@ -124,6 +132,7 @@ impl Reader {
     }
 
     // After a carriage return and a byte that is no newline: the line is bad, whatever follows.
+    #[tactic(auto, unfolding(crate::specs::Lines::cr_stray, crate::specs::Lines::spoilt_line))]
     fn stray_cr(self) -> Reader
         ensures { result ≡ cr_stray self }
     {
@@ -133,6 +142,7 @@ impl Reader {
     }
 
     // After one byte more of a word.
+    #[tactic(auto, unfolding(crate::specs::Lines::word_grown))]
     fn grow_word(self, byte: u8) -> Reader
         ensures { result ≡ word_grown self byte }
     {
@@ -147,6 +157,7 @@ impl Reader {
     }
 
     // After one byte more, which is no newline.
+    #[tactic(auto, unfolding(crate::specs::Lines::fed_reader))]
     pub fn fed(self, byte: u8) -> Reader
         ensures { result ≡ fed_reader self byte }
     {
@@ -169,6 +180,7 @@ impl Reader {
     }
 
     // The whole line, at its newline or else at the end of the input, before which no carriage return may stand.
+    #[tactic(auto, unfolding(crate::specs::Lines::ended_line))]
     pub fn ended(self, newline: bool) -> Line
         ensures { result ≡ ended_line self newline }
     {

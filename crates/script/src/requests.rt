@@ -50,6 +50,7 @@ pub enum Request {
 }
 
 // Chip 0 is the WD1793, chip 1 the WD1797.
+#[tactic(auto, unfolding(crate::specs::Requests::power_on_request))]
 fn power_on(density: u16, length: u16, chip: u16) -> Request
     ensures { result ≡ power_on_request density length chip }
 {
@@ -66,6 +67,7 @@ fn power_on(density: u16, length: u16, chip: u16) -> Request
     }
 }
 
+#[tactic(auto, unfolding(crate::specs::Requests::lines_request))]
 fn set_lines(bits: u16) -> Request
     ensures { result ≡ lines_request bits }
 {
@@ -75,6 +77,7 @@ fn set_lines(bits: u16) -> Request
     Request::SetLines { bits: bits as u8 }
 }
 
+#[tactic(auto, unfolding(crate::specs::Requests::load_request))]
 fn load(register: u16, byte: u16) -> Request
     ensures { result ≡ load_request register byte }
 {
@@ -90,6 +93,7 @@ fn load(register: u16, byte: u16) -> Request
     })
 }
 
+#[tactic(auto, unfolding(crate::specs::Requests::read_request))]
 fn read(register: u16) -> Request
     ensures { result ≡ read_request register }
 {
@@ -101,6 +105,7 @@ fn read(register: u16) -> Request
     })
 }
 
+#[tactic(auto, unfolding(crate::specs::Requests::view_request))]
 fn view(density: u16, track: u16, sector: u16) -> Request
     ensures { result ≡ view_request density track sector }
 {
@@ -121,6 +126,7 @@ fn view(density: u16, track: u16, sector: u16) -> Request
 }
 
 // Line C names at least one cell after its place; that it names no more than 64 the line has seen to.
+#[tactic(auto, unfolding(crate::specs::Requests::cells_request))]
 fn set_cells(count: usize, place: u16) -> Request
     ensures { result ≡ cells_request count place }
 {
@@ -130,6 +136,7 @@ fn set_cells(count: usize, place: u16) -> Request
     Request::Rows(Task::SetCells { place })
 }
 
+#[tactic(auto, unfolding(crate::specs::Requests::of_none))]
 fn of_none(letter: u8) -> Request
     ensures { result ≡ of_none letter }
 {
@@ -141,6 +148,7 @@ fn of_none(letter: u8) -> Request
     }
 }
 
+#[tactic(auto, unfolding(crate::specs::Requests::of_one))]
 fn of_one(letter: u8, a: u16) -> Request
     ensures { result ≡ of_one letter a }
 {
@@ -155,6 +163,7 @@ fn of_one(letter: u8, a: u16) -> Request
     }
 }
 
+#[tactic(auto, unfolding(crate::specs::Requests::of_two))]
 fn of_two(letter: u8, a: u16, b: u16) -> Request
     ensures { result ≡ of_two letter a b }
 {
@@ -166,6 +175,7 @@ fn of_two(letter: u8, a: u16, b: u16) -> Request
     }
 }
 
+#[tactic(auto, unfolding(crate::specs::Requests::of_three))]
 fn of_three(letter: u8, a: u16, b: u16, c: u16) -> Request
     ensures { result ≡ of_three letter a b c }
 {
@@ -181,6 +191,7 @@ fn of_three(letter: u8, a: u16, b: u16, c: u16) -> Request
     }
 }
 
+#[tactic(auto, unfolding(crate::specs::Requests::request_of))]
 pub fn request_of(line: Line) -> Request
     ensures { result ≡ request_of line }
 {

@@ -14,6 +14,7 @@ pub struct Word {
     pub digits: bool,
 }
 
+#[tactic(auto, unfolding(crate::specs::Words::longer_by))]
 fn longer(size: u8) -> u8
     ensures { result ≡ longer_by size }
 {
@@ -21,6 +22,7 @@ fn longer(size: u8) -> u8
 }
 
 impl Word {
+    #[tactic(auto, unfolding(crate::specs::Words::no_word))]
     pub fn none() -> Word
         ensures { result ≡ no_word }
     {
@@ -33,6 +35,7 @@ impl Word {
     }
 
     // The word and one byte more.
+    #[tactic(auto, unfolding(crate::specs::Words::word_with))]
     pub fn with(self, byte: u8) -> Word
         ensures { result ≡ word_with self byte }
     {
@@ -45,12 +48,14 @@ impl Word {
         }
     }
 
+    #[tactic(auto, unfolding(crate::specs::Words::is_letter))]
     pub fn is_letter(self) -> bool
         ensures { result ≡ is_letter self }
     {
         (self.size == 1) & glyphs::is_capital(self.last)
     }
 
+    #[tactic(auto, unfolding(crate::specs::Words::is_number))]
     pub fn is_number(self) -> bool
         ensures { result ≡ is_number self }
     {

@@ -37,6 +37,7 @@ fn register(side: &[u16], crc: u16, from: usize, to: usize) -> u16
 }
 
 // The data cells after an ID with this length byte, if the ID has a data mark and a good data field before the side's end.
+#[tactic(auto, unfolding(crate::specs::Sectors::span_behind, crate::specs::Sectors::span_marked, crate::specs::Sectors::span_from))]
 fn span_behind(side: &[u16], mfm: bool, length: u8, behind: u32) -> Span
     ensures { result ≡ span_behind mfm side.now length behind }
 {
@@ -58,6 +59,7 @@ fn span_behind(side: &[u16], mfm: bool, length: u8, behind: u32) -> Span
 }
 
 // The data cells of an ID that was found, if it is a good one of the track and sector.
+#[tactic(auto, unfolding(crate::specs::Sectors::span_in, crate::specs::Sectors::wanted_of))]
 fn span_in(side: &[u16], mfm: bool, found: Found, track: u8, sector: u8) -> Span
     ensures { result ≡ span_in mfm side.now track sector found }
 {
@@ -73,6 +75,7 @@ fn span_in(side: &[u16], mfm: bool, found: Found, track: u8, sector: u8) -> Span
 }
 
 // Where the search for IDs goes on: after the one that was found, or nowhere.
+#[tactic(auto, unfolding(crate::specs::Sectors::behind_in))]
 fn behind_in(found: Found, to: u32) -> u32
     ensures { result ≡ behind_in found to }
 {
@@ -117,6 +120,7 @@ fn cells_within(side: &[u16]) -> bool
 }
 
 // 1, then 4; 0 where the sides may be searched.
+#[tactic(auto, unfolding(crate::specs::Views::view_refusal))]
 fn refusal(side0: &[u16], side1: &[u16]) -> u8
     ensures { result ≡ view_refusal side0.now side1.now }
 {
@@ -130,6 +134,7 @@ fn refusal(side0: &[u16], side1: &[u16]) -> u8
 }
 
 // Side 1, where side 0 has no such sector.
+#[tactic(auto, unfolding(crate::specs::Views::second_place))]
 fn second(side1: &[u16], mfm: bool, track: u8, sector: u8) -> Place
     requires { length_within (length side1.now) ≡ true }
     ensures { result ≡ second_place (span_on mfm side1.now track sector) }
@@ -155,6 +160,7 @@ pub fn find(side0: &[u16], side1: &[u16], mfm: bool, track: u8, sector: u8) -> P
 }
 
 // The sector's data cells as they stand there; an empty part of side 0 where the viewer refuses.
+#[tactic(auto, unfolding(crate::specs::Views::part_cells, crate::specs::Views::part_start))]
 pub fn view<'a>(side0: &'a [u16], side1: &'a [u16], mfm: bool, track: u8, sector: u8) -> &'a [u16]
     ensures result_value { result.now ≡ part_cells (place_of side0.now side1.now mfm track sector) side0.now side1.now }
     ensures ref_ptr_value { result.ref_ptr ≡ part_start (place_of side0.now side1.now mfm track sector) side0.entry.ref_ptr side1.entry.ref_ptr }
