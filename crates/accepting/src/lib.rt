@@ -8,6 +8,7 @@ use activity::Activity;
 use command::{Chip, Class, Command};
 use registers::{Conditions, Flags, Head, Lines, Regs, Wires};
 
+#[tactic(auto, unfolding(crate::specs::Accepting::writes))]
 fn writes_to_disk(command: Command) -> bool
     ensures { result ≡ writes command }
 {
@@ -18,6 +19,7 @@ fn writes_to_disk(command: Command) -> bool
 }
 
 // A write that protection ends at once; not ready comes first.
+#[tactic(auto, unfolding(crate::specs::Accepting::held_by))]
 pub fn held(command: Command, lines: Lines) -> bool
     ensures { result ≡ held_by command lines }
 {
@@ -25,6 +27,7 @@ pub fn held(command: Command, lines: Lines) -> bool
 }
 
 // Write Track asks for its first byte at acceptance.
+#[tactic(auto, unfolding(crate::specs::Accepting::asks_first))]
 pub fn asks(command: Command) -> bool
     ensures { result ≡ asks_first command }
 {
@@ -35,6 +38,7 @@ pub fn asks(command: Command) -> bool
 }
 
 // Restore sets TR 255 and DR 0.
+#[tactic(auto, unfolding(crate::specs::Accepting::begin_regs))]
 pub fn begin_regs(regs: Regs, command: Command) -> Regs
     ensures { result ≡ begin_regs regs command }
 {
@@ -48,6 +52,7 @@ pub fn begin_regs(regs: Regs, command: Command) -> Regs
     regs
 }
 
+#[tactic(auto, unfolding(crate::specs::Accepting::begin_wires))]
 pub fn begin_wires(wires: Wires, asks: bool, ends: bool, byte: u8, class: Class) -> Wires
     ensures { result ≡ begin_wires wires asks ends byte class }
 {
@@ -67,6 +72,7 @@ pub fn begin_wires(wires: Wires, asks: bool, ends: bool, byte: u8, class: Class)
     }
 }
 
+#[tactic(auto, unfolding(crate::specs::Accepting::forced_flags))]
 fn forced_flags(flags: Flags, busy: bool) -> Flags
     ensures { result ≡ forced_flags flags busy }
 {
@@ -80,6 +86,7 @@ fn forced_flags(flags: Flags, busy: bool) -> Flags
     after
 }
 
+#[tactic(auto, unfolding(crate::specs::Accepting::begin_flags))]
 pub fn begin_flags(flags: Flags, held: bool, busy: bool, class: Class) -> Flags
     ensures { result ≡ begin_flags flags held busy class }
 {
@@ -104,6 +111,7 @@ pub fn begin_flags(flags: Flags, held: bool, busy: bool, class: Class) -> Flags
     }
 }
 
+#[tactic(auto, unfolding(crate::specs::Accepting::begin_head))]
 pub fn begin_head(head: Head, ends: bool, byte: u8, class: Class) -> Head
     ensures { result ≡ begin_head head ends byte class }
 {
@@ -121,6 +129,7 @@ pub fn begin_head(head: Head, ends: bool, byte: u8, class: Class) -> Head
 }
 
 // The conditions that a command asks for, as long as it is the last one.
+#[tactic(auto, unfolding(crate::specs::Accepting::conditions_for))]
 pub fn conditions_for(byte: u8, class: Class) -> Conditions
     ensures { result ≡ conditions_for byte class }
 {
@@ -139,6 +148,7 @@ pub fn conditions_for(byte: u8, class: Class) -> Conditions
 }
 
 // Where Types II and III begin, if they do not end at once.
+#[tactic(auto, unfolding(crate::specs::Accepting::works_from))]
 fn works_from(ends: bool, settles: bool, mfm: bool) -> Activity
     ensures { result ≡ works_from ends settles mfm }
 {
@@ -151,6 +161,7 @@ fn works_from(ends: bool, settles: bool, mfm: bool) -> Activity
     Activity::Settle(0)
 }
 
+#[tactic(auto, unfolding(crate::specs::Accepting::begin_activity))]
 pub fn begin_activity(ends: bool, mfm: bool, byte: u8, class: Class) -> Activity
     ensures { result ≡ begin_activity ends mfm byte class }
 {
@@ -163,6 +174,7 @@ pub fn begin_activity(ends: bool, mfm: bool, byte: u8, class: Class) -> Activity
 }
 
 // Types II and III set the side output, also one that ends at once; the other commands leave it.
+#[tactic(auto, unfolding(crate::specs::Accepting::begin_side))]
 pub fn begin_side(sso: bool, chip: Chip, byte: u8, class: Class) -> bool
     ensures { result ≡ begin_side sso chip byte class }
 {

@@ -9,6 +9,7 @@ use command::{Job, Order};
 use scan::Scan;
 
 // A Write Track begins at the first index pulse, where its first byte was served.
+#[tactic(auto, unfolding(crate::specs::Turns::format_begun))]
 fn begin_format(s: Seen) -> Activity
     ensures { result ≡ format_begun s }
 {
@@ -20,6 +21,7 @@ fn begin_format(s: Seen) -> Activity
 }
 
 // What a command begins with the first byte time that has HLT on.
+#[tactic(auto, unfolding(crate::specs::Turns::job_begun))]
 fn begin(s: Seen, job: Job) -> Activity
     ensures { result ≡ job_begun s job }
 {
@@ -32,6 +34,7 @@ fn begin(s: Seen, job: Job) -> Activity
 }
 
 // What goes on in this byte time: what begins in it has begun before the cell is looked at.
+#[tactic(auto, unfolding(crate::specs::Turns::begun_activity))]
 fn entered(o: Order, s: Seen, activity: Activity) -> Activity
     ensures { result ≡ begun_activity o s activity }
 {
@@ -49,6 +52,7 @@ fn entered(o: Order, s: Seen, activity: Activity) -> Activity
     }
 }
 
+#[tactic(auto, unfolding(crate::specs::Turns::settle_turn))]
 fn settling(s: Seen, left: u16) -> Act
     ensures { result ≡ settle_turn s left }
 {
@@ -68,6 +72,7 @@ fn settling(s: Seen, left: u16) -> Act
 }
 
 // A pulse that has begun nothing finds a Write Track that nobody has served.
+#[tactic(auto, unfolding(crate::specs::Turns::await_turn))]
 fn awaiting(s: Seen) -> Act
     ensures { result ≡ await_turn s }
 {
@@ -86,6 +91,7 @@ fn awaiting(s: Seen) -> Act
     }
 }
 
+#[tactic(auto, unfolding(crate::specs::Turns::activity_act))]
 fn react(o: Order, s: Seen, activity: Activity) -> Act
     ensures { result ≡ activity_act o s activity }
 {
@@ -122,6 +128,7 @@ fn react(o: Order, s: Seen, activity: Activity) -> Act
 }
 
 // One byte time. Each part has one place where it is called.
+#[tactic(auto, unfolding(crate::specs::Turns::act_of))]
 pub fn turn(o: Order, s: Seen, activity: Activity) -> Act
     ensures { result ≡ act_of o s activity }
 {

@@ -19,6 +19,7 @@ pub struct Parts {
 }
 
 // SR after a record: with m it goes up by one, from 255 to 0.
+#[tactic(auto, unfolding(crate::specs::Effects::raised_sr))]
 fn raised(sr: u8, follows: bool) -> u8
     ensures { result ≡ raised_sr sr follows }
 {
@@ -44,6 +45,7 @@ fn stopped_at(rule: bool, tr: u8) -> u8
 
 impl Parts {
     // A byte goes to DR; a host that has not taken the one before is late.
+    #[tactic(auto, unfolding(crate::specs::Effects::delivered))]
     fn deliver(self, byte: u8) -> Parts
         ensures { result ≡ delivered self byte }
     {
@@ -56,6 +58,7 @@ impl Parts {
     }
 
     // The last byte of an address.
+    #[tactic(auto, unfolding(crate::specs::Effects::address_named))]
     fn name(self, byte: u8, track: u8, bad: bool) -> Parts
         ensures { result ≡ address_named self track byte bad }
     {
@@ -98,6 +101,7 @@ impl Parts {
         after
     }
 
+    #[tactic(auto, unfolding(crate::specs::Effects::record_over))]
     fn end_record(self, follows: bool) -> Parts
         ensures { result ≡ record_over self follows }
     {
@@ -107,6 +111,7 @@ impl Parts {
         after
     }
 
+    #[tactic(auto, unfolding(crate::specs::Effects::record_read, crate::specs::Effects::record_over))]
     fn read_record(self, deleted: bool, bad: bool, follows: bool) -> Parts
         ensures { result ≡ record_read self deleted bad follows }
     {
@@ -118,6 +123,7 @@ impl Parts {
     }
 
     // A written cell takes DR; where DRQ is still on the host is late.
+    #[tactic(auto, unfolding(crate::specs::Effects::cell_taken))]
     fn take(self, on: bool) -> Parts
         ensures { result ≡ cell_taken self on }
     {
@@ -128,6 +134,7 @@ impl Parts {
         after
     }
 
+    #[tactic(auto, unfolding(crate::specs::Effects::stepped))]
     fn step(self, inward: bool, track: u8) -> Parts
         ensures { result ≡ stepped self inward track }
     {
@@ -145,6 +152,7 @@ impl Parts {
         }
     }
 
+    #[tactic(auto, unfolding(crate::specs::Effects::halted))]
     fn halt(self, rule: bool, load: bool) -> Parts
         ensures { result ≡ halted self rule load }
     {
@@ -159,6 +167,7 @@ impl Parts {
     }
 
     // The parts after a deed.
+    #[tactic(auto, unfolding(crate::specs::Effects::effect_of))]
     pub fn after(self, deed: Deed) -> Parts
         ensures { result ≡ effect_of self deed }
     {

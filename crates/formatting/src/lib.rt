@@ -6,6 +6,7 @@ ghost use Rattle.formatting.specs.Formatting.{until_last, presets, laid_cell, la
 
 use activity::{Act, Activity, Deed, Seen, taken};
 
+#[tactic(auto, unfolding(crate::specs::Formatting::until_last))]
 fn until_last(last: bool, next: Activity) -> Activity
     ensures { result ≡ until_last last next }
 {
@@ -13,6 +14,7 @@ fn until_last(last: bool, next: Activity) -> Activity
 }
 
 // The FM marks that begin a CRC.
+#[tactic(auto, unfolding(crate::specs::Formatting::presets))]
 fn presets_crc(byte: u8) -> bool
     ensures { result ≡ presets byte }
 {
@@ -20,6 +22,7 @@ fn presets_crc(byte: u8) -> bool
 }
 
 // The cell that a byte is laid as.
+#[tactic(auto, unfolding(crate::specs::Formatting::laid_cell))]
 pub fn laid_cell(mfm: bool, byte: u8) -> u16
     ensures { result ≡ laid_cell mfm byte }
 {
@@ -39,6 +42,7 @@ pub fn laid_cell(mfm: bool, byte: u8) -> u16
 }
 
 // The register after it.
+#[tactic(auto, unfolding(crate::specs::Formatting::laid_crc))]
 pub fn laid_crc(mfm: bool, crc: u16, byte: u8) -> u16
     ensures { result ≡ laid_crc mfm crc byte }
 {
@@ -58,6 +62,7 @@ pub fn laid_crc(mfm: bool, crc: u16, byte: u8) -> u16
 }
 
 // A cell of a Write Track.
+#[tactic(auto, unfolding(crate::specs::Formatting::format_cell))]
 pub fn format(s: Seen, crc: u16) -> Act
     ensures { result ≡ format_cell s crc }
 {
@@ -77,6 +82,7 @@ pub fn format(s: Seen, crc: u16) -> Act
 }
 
 // The second cell of an F7.
+#[tactic(auto, unfolding(crate::specs::Formatting::format_crc_cell))]
 pub fn format_crc(s: Seen, crc: u16) -> Act
     ensures { result ≡ format_crc_cell s crc }
 {

@@ -8,6 +8,7 @@ use activity::{Act, Activity, Deed, Seen};
 use scan::{Passed, Sought};
 use search::{again, pulses};
 
+#[tactic(auto, unfolding(crate::specs::Reading::window_missed))]
 fn missed(s: Seen, left: u16, passed: u8, run: u8) -> Act
     ensures { result ≡ window_missed s left passed run }
 {
@@ -25,6 +26,7 @@ fn missed(s: Seen, left: u16, passed: u8, run: u8) -> Act
     }
 }
 
+#[tactic(auto, unfolding(crate::specs::Reading::window_step))]
 fn met(s: Seen, left: u16, passed: u8, sought: Sought) -> Act
     ensures { result ≡ window_step s left passed sought }
 {
@@ -43,6 +45,7 @@ fn met(s: Seen, left: u16, passed: u8, sought: Sought) -> Act
 }
 
 // A cell after the ID of a Read Sector.
+#[tactic(auto, unfolding(crate::specs::Reading::window_cell))]
 pub fn window(s: Seen, left: u16, passed: u8, run: u8) -> Act
     ensures { result ≡ window_cell s left passed run }
 {
@@ -50,6 +53,7 @@ pub fn window(s: Seen, left: u16, passed: u8, run: u8) -> Act
 }
 
 // Whether another record follows one that closes with this register.
+#[tactic(auto, unfolding(crate::specs::Reading::record_follows))]
 fn follows(multiple: bool, crc: u16) -> bool
     ensures { result ≡ record_follows multiple crc }
 {
@@ -57,6 +61,7 @@ fn follows(multiple: bool, crc: u16) -> bool
 }
 
 // A cell of a data field.
+#[tactic(auto, unfolding(crate::specs::Reading::data_cell, crate::specs::Reading::record_end))]
 pub fn read(s: Seen, multiple: bool, left: u16, crc: u16, deleted: bool) -> Act
     ensures { result ≡ data_cell s multiple left crc deleted }
 {
@@ -84,6 +89,7 @@ pub fn read(s: Seen, multiple: bool, left: u16, crc: u16, deleted: bool) -> Act
     }
 }
 
+#[tactic(auto, unfolding(crate::specs::Reading::address_begun))]
 fn begin_address(mfm: bool, pulses: u8, byte: u8) -> Activity
     ensures { result ≡ address_begun mfm pulses byte }
 {
@@ -94,6 +100,7 @@ fn begin_address(mfm: bool, pulses: u8, byte: u8) -> Activity
     }
 }
 
+#[tactic(auto, unfolding(crate::specs::Reading::hunt_step))]
 fn hunted(s: Seen, pulses: u8, passed: Passed) -> Act
     ensures { result ≡ hunt_step s pulses passed }
 {
@@ -112,6 +119,7 @@ fn hunted(s: Seen, pulses: u8, passed: Passed) -> Act
 }
 
 // Read Address before its mark.
+#[tactic(auto, unfolding(crate::specs::Reading::hunt_cell))]
 pub fn hunt(s: Seen, seen: u8, run: u8) -> Act
     ensures { result ≡ hunt_cell s seen run }
 {
@@ -126,6 +134,7 @@ pub fn hunt(s: Seen, seen: u8, run: u8) -> Act
     hunted(s, count, scan::pass(s.mfm, s.cell, run))
 }
 
+#[tactic(auto, unfolding(crate::specs::Reading::address_track))]
 fn track_of(passed: u8, byte: u8, track: u8) -> u8
     ensures { result ≡ address_track passed byte track }
 {
@@ -133,6 +142,7 @@ fn track_of(passed: u8, byte: u8, track: u8) -> u8
 }
 
 // A cell after the mark of a Read Address.
+#[tactic(auto, unfolding(crate::specs::Reading::address_cell))]
 pub fn address(s: Seen, passed: u8, crc: u16, track: u8) -> Act
     ensures { result ≡ address_cell s passed crc track }
 {

@@ -5,6 +5,7 @@ ghost use Rattle.registers.specs.Registers.{read_refusal, read_byte, read_wires,
 use crate::{Regs, Status, Wires};
 
 // What refusals 2 and 5 ask of a read.
+#[tactic(auto, unfolding(crate::specs::Registers::read_refusal))]
 pub fn read_refusal(valid: bool, number: u8) -> u8
     ensures { result ≡ read_refusal valid number }
 {
@@ -15,6 +16,7 @@ pub fn read_refusal(valid: bool, number: u8) -> u8
     }
 }
 
+#[tactic(auto, unfolding(crate::specs::Registers::read_byte))]
 pub fn read_byte(regs: Regs, status: Status, number: u8) -> u8
     ensures { result ≡ read_byte regs status number }
 {
@@ -31,6 +33,7 @@ pub fn read_byte(regs: Regs, status: Status, number: u8) -> u8
 }
 
 // Reading status turns INTRQ off, reading DR turns DRQ off.
+#[tactic(auto, unfolding(crate::specs::Registers::read_wires))]
 pub fn read_wires(wires: Wires, number: u8) -> Wires
     ensures { result ≡ read_wires wires number }
 {
@@ -41,6 +44,7 @@ pub fn read_wires(wires: Wires, number: u8) -> Wires
 }
 
 // A load that must wait until Busy is off: TR, SR, or a command that is no Force Interrupt.
+#[tactic(auto, unfolding(crate::specs::Registers::guarded))]
 fn guarded_load(number: u8, byte: u8) -> bool
     ensures { result ≡ guarded number byte }
 {
@@ -48,6 +52,7 @@ fn guarded_load(number: u8, byte: u8) -> bool
 }
 
 // What refusals 2, 5 and 6 ask of a load.
+#[tactic(auto, unfolding(crate::specs::Registers::load_refusal))]
 pub fn load_refusal(valid: bool, busy: bool, number: u8, byte: u8) -> u8
     ensures { result ≡ load_refusal valid busy number byte }
 {
@@ -66,6 +71,7 @@ pub fn load_refusal(valid: bool, busy: bool, number: u8, byte: u8) -> u8
     }
 }
 
+#[tactic(auto, unfolding(crate::specs::Registers::load_regs))]
 pub fn load_regs(regs: Regs, number: u8, byte: u8) -> Regs
     ensures { result ≡ load_regs regs number byte }
 {
@@ -91,6 +97,7 @@ pub fn load_regs(regs: Regs, number: u8, byte: u8) -> Regs
 }
 
 // Loading DR turns DRQ off.
+#[tactic(auto, unfolding(crate::specs::Registers::load_wires))]
 pub fn load_wires(wires: Wires, number: u8) -> Wires
     ensures { result ≡ load_wires wires number }
 {

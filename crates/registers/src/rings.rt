@@ -5,6 +5,7 @@ ghost use Rattle.registers.specs.Rings.{ring_within, ring_next, seen_of, conditi
 use crate::{Conditions, Lines, Regs, Ring};
 use activity::Seen;
 
+#[tactic(auto, unfolding(crate::specs::Rings::ring_within))]
 pub fn ring_within(ring: Ring) -> bool
     ensures { result ≡ ring_within ring }
 {
@@ -12,6 +13,7 @@ pub fn ring_within(ring: Ring) -> bool
 }
 
 // The position goes up by one, and from the last cell to 0. One that is out of range stays where it is.
+#[tactic(auto, unfolding(crate::specs::Rings::ring_next))]
 pub fn next(ring: Ring) -> Ring
     ensures { result ≡ ring_next ring }
 {
@@ -31,6 +33,7 @@ pub fn next(ring: Ring) -> Ring
 }
 
 // What a byte time sees.
+#[tactic(auto, unfolding(crate::specs::Rings::seen_of))]
 pub fn look(mfm: bool, ring: Ring, regs: Regs, drq: bool, lines: Lines, cell: u16) -> Seen
     ensures { result ≡ seen_of mfm ring regs drq lines cell }
 {
@@ -49,6 +52,7 @@ pub fn look(mfm: bool, ring: Ring, regs: Regs, drq: bool, lines: Lines, cell: u1
 }
 
 // A condition of a Force Interrupt is met.
+#[tactic(auto, unfolding(crate::specs::Rings::condition_met))]
 pub fn condition_met(conditions: Conditions, was: bool, ready: bool, index: bool) -> bool
     ensures { result ≡ condition_met conditions was ready index }
 {

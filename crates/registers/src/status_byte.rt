@@ -31,6 +31,7 @@ impl Status {
     pub const BUSY: u8 = 0x01;
 }
 
+#[tactic(auto, unfolding(crate::specs::Status::bit_for))]
 fn bit(on: bool, mask: u8) -> u8
     ensures value { result ≡ bit_for on mask }
     ensures upper_bound { result ≤ mask }
@@ -39,6 +40,7 @@ fn bit(on: bool, mask: u8) -> u8
 }
 
 // Bits 6, 5, 2 and 1, which each type of command gives in its own way.
+#[tactic(auto, unfolding(crate::specs::Status::type_bits))]
 fn type_bits(six: bool, five: bool, two: bool, one: bool) -> u8
     ensures value { result ≡ type_bits six five two one }
     ensures upper_bound { result ≤ 0x66 }
@@ -49,6 +51,7 @@ fn type_bits(six: bool, five: bool, two: bool, one: bool) -> u8
 }
 
 // The status byte, with these bits and those of every type.
+#[tactic(auto, unfolding(crate::specs::Status::status_from))]
 fn status_of(varying: u8, flags: Flags, busy: bool, ready: bool) -> Status
     requires { varying ≤ 0x66 }
     ensures { result ≡ status_from varying flags busy ready }
@@ -62,6 +65,7 @@ fn status_of(varying: u8, flags: Flags, busy: bool, ready: bool) -> Status
 
 // The status byte of Type I follows the lines and the last byte time's pulse: whether the head is loaded with HLT on, and
 // whether it was a pulse.
+#[tactic(auto, unfolding(crate::specs::Status::status_from))]
 pub fn of_type1(engaged: bool, index: bool, flags: Flags, busy: bool, lines: Lines) -> Status
     ensures { result ≡ status_from (type1_of engaged index lines) flags busy lines.ready }
 {
@@ -70,6 +74,7 @@ pub fn of_type1(engaged: bool, index: bool, flags: Flags, busy: bool, lines: Lin
 }
 
 // The status byte of Types II and III.
+#[tactic(auto, unfolding(crate::specs::Status::status_from))]
 pub fn of_type2(drq: bool, flags: Flags, busy: bool, lines: Lines) -> Status
     ensures { result ≡ status_from (type2_of flags drq) flags busy lines.ready }
 {

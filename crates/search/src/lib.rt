@@ -9,6 +9,7 @@ use command::{Job, Order, SideAsked};
 use scan::{Heard, Id, Scan};
 
 // Index pulses seen with this byte time; from the fifth on they need no longer be counted.
+#[tactic(auto, unfolding(crate::specs::Search::pulses_seen))]
 pub fn pulses(seen: u8, index: bool) -> u8
     ensures { result ≡ pulses_seen seen index }
 {
@@ -19,6 +20,7 @@ pub fn pulses(seen: u8, index: bool) -> u8
     }
 }
 
+#[tactic(auto, unfolding(crate::specs::Search::side_matches))]
 fn side_matches(side: u8, asked: SideAsked) -> bool
     ensures { result ≡ side_matches side asked }
 {
@@ -28,6 +30,7 @@ fn side_matches(side: u8, asked: SideAsked) -> bool
     }
 }
 
+#[tactic(auto, unfolding(crate::specs::Search::sector_matches))]
 fn sector_matches(o: Order, s: Seen, id: Id) -> bool
     ensures { result ≡ sector_matches o s id }
 {
@@ -35,6 +38,7 @@ fn sector_matches(o: Order, s: Seen, id: Id) -> bool
     (id.track == s.tr) & (id.sector == s.sr) & side_matches(id.side, side)
 }
 
+#[tactic(auto, unfolding(crate::specs::Search::matches_for))]
 fn matches(o: Order, s: Seen, id: Id, job: Job) -> bool
     ensures { result ≡ matches_for o s id job }
 {
@@ -49,6 +53,7 @@ fn matches(o: Order, s: Seen, id: Id, job: Job) -> bool
 }
 
 // What comes after a good match.
+#[tactic(auto, unfolding(crate::specs::Search::after_match))]
 fn served(job: Job, ibm: bool, length: u8) -> Activity
     ensures { result ≡ after_match ibm length job }
 {
@@ -59,6 +64,7 @@ fn served(job: Job, ibm: bool, length: u8) -> Activity
     }
 }
 
+#[tactic(auto, unfolding(crate::specs::Search::id_found))]
 fn found(o: Order, s: Seen, pulses: u8, id: Id) -> Act
     ensures { result ≡ id_found o s pulses id }
 {
@@ -85,6 +91,7 @@ fn found(o: Order, s: Seen, pulses: u8, id: Id) -> Act
     }
 }
 
+#[tactic(auto, unfolding(crate::specs::Search::search_step))]
 fn hears(o: Order, s: Seen, pulses: u8, heard: Heard) -> Act
     ensures { result ≡ search_step o s pulses heard }
 {
@@ -99,6 +106,7 @@ fn hears(o: Order, s: Seen, pulses: u8, heard: Heard) -> Act
 }
 
 // After a record: the next search, or the end.
+#[tactic(auto, unfolding(crate::specs::Search::after_record))]
 pub fn again(follows: bool) -> Activity
     ensures { result ≡ after_record follows }
 {
@@ -110,6 +118,7 @@ pub fn again(follows: bool) -> Activity
 }
 
 // One cell more.
+#[tactic(auto, unfolding(crate::specs::Search::search_cell))]
 pub fn search(o: Order, s: Seen, seen: u8, scan: Scan) -> Act
     ensures { result ≡ search_cell o s seen scan }
 {

@@ -9,6 +9,7 @@ use command::Order;
 
 // Stepping is over, by the track 0 rule or because the track is reached. With V a Restore that
 // has not found track 0 is a Seek Error.
+#[tactic(auto, unfolding(crate::specs::Stepping::stop_act))]
 fn stop(o: Order, s: Seen, rule: bool) -> Act
     ensures { result ≡ stop_act o s rule }
 {
@@ -35,6 +36,7 @@ fn stop(o: Order, s: Seen, rule: bool) -> Act
 }
 
 // TR after a step; it wraps.
+#[tactic(auto, unfolding(crate::specs::Stepping::track_after))]
 fn moved(moves: bool, inward: bool, track: u8) -> u8
     ensures { result ≡ track_after moves inward track }
 {
@@ -49,6 +51,7 @@ fn moved(moves: bool, inward: bool, track: u8) -> u8
     }
 }
 
+#[tactic(auto, unfolding(crate::specs::Stepping::step_act))]
 fn step(o: Order, s: Seen, inward: bool, moves: bool, next: Activity) -> Act
     ensures { result ≡ step_act o s inward moves next }
 {
@@ -62,6 +65,7 @@ fn step(o: Order, s: Seen, inward: bool, moves: bool, next: Activity) -> Act
     }
 }
 
+#[tactic(auto, unfolding(crate::specs::Stepping::seek_decision))]
 fn decide(o: Order, s: Seen) -> Act
     ensures { result ≡ seek_decision o s }
 {
@@ -78,6 +82,7 @@ fn decide(o: Order, s: Seen) -> Act
 }
 
 // Restore and Seek.
+#[tactic(auto, unfolding(crate::specs::Stepping::seek_turn))]
 pub fn seek(o: Order, s: Seen, left: u16) -> Act
     ensures { result ≡ seek_turn o s left }
 {
@@ -92,6 +97,7 @@ pub fn seek(o: Order, s: Seen, left: u16) -> Act
 }
 
 // Step, Step-in and Step-out.
+#[tactic(auto, unfolding(crate::specs::Stepping::pulse_turn))]
 pub fn pulse(o: Order, s: Seen) -> Act
     ensures { result ≡ pulse_turn o s }
 {
@@ -100,6 +106,7 @@ pub fn pulse(o: Order, s: Seen) -> Act
 }
 
 // After the one pulse.
+#[tactic(auto, unfolding(crate::specs::Stepping::stop_turn))]
 pub fn stop_in(o: Order, s: Seen, left: u16) -> Act
     ensures { result ≡ stop_turn o s left }
 {

@@ -16,6 +16,7 @@ pub struct Reach {
     pub below: u16,
 }
 
+#[tactic(auto, unfolding(crate::specs::Stretches::least_of))]
 fn least(a: u16, b: u16) -> u16
     ensures value { result ≡ least_of a b }
     ensures upper_bound { (result ≤ a) × (result ≤ b) }
@@ -31,6 +32,7 @@ fn shorter(left: u16, passed: u16) -> u16
 }
 
 // So many byte times of a wait are left in which nothing happens.
+#[tactic(auto, unfolding(crate::specs::Stretches::wait_reach))]
 fn wait_reach(limit: u16, left: u16) -> Reach
     ensures value { result ≡ wait_reach limit left }
     ensures most_le_limit { result.most ≤ limit }
@@ -41,6 +43,7 @@ fn wait_reach(limit: u16, left: u16) -> Reach
     }
 }
 
+#[tactic(auto, unfolding(crate::specs::Stretches::empty_gap))]
 fn empty_gap(scan: Scan) -> bool
     ensures { result ≡ empty_gap scan }
 {
@@ -50,6 +53,7 @@ fn empty_gap(scan: Scan) -> bool
     }
 }
 
+#[tactic(auto, unfolding(crate::specs::Stretches::search_reach))]
 fn search_reach(limit: u16, pulses: u8, scan: Scan) -> Reach
     ensures value { result ≡ search_reach limit pulses scan }
     ensures most_le_limit { result.most ≤ limit }
@@ -65,6 +69,7 @@ fn search_reach(limit: u16, pulses: u8, scan: Scan) -> Reach
 }
 
 // How far nothing happens, up to a limit, where no index pulse comes.
+#[tactic(auto, unfolding(crate::specs::Stretches::reach_of))]
 fn reaches(limit: u16, activity: Activity) -> Reach
     ensures value { result ≡ reach_of limit activity }
     ensures most_le_limit { result.most ≤ limit }
@@ -88,6 +93,7 @@ fn reaches(limit: u16, activity: Activity) -> Reach
 }
 
 // The activity after so many such byte times.
+#[tactic(auto, unfolding(crate::specs::Stretches::activity_after))]
 pub fn later(passed: u16, activity: Activity) -> Activity
     ensures { result ≡ activity_after passed activity }
 {
@@ -117,6 +123,7 @@ fn clear(row: &[u16], from: usize, to: usize, below: u16) -> usize
 
 // How many byte times of a stretch come next, at most so many. Cell 0, whose byte time is an index pulse, and the ring's last,
 // after which the position goes to 0, are in none.
+#[tactic(auto, unfolding(crate::specs::Stretches::stretch_ahead, crate::specs::Stretches::reach_in))]
 pub fn ahead(ring: Ring, activity: Activity, limit: u16, row: &[u16]) -> u16
     ensures value { result ≡ stretch_ahead ring activity limit row.now }
     ensures upper_bound { result ≤ limit }

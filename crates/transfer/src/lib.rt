@@ -15,6 +15,7 @@ pub enum Transfer {
 }
 
 // A data byte goes to DR; the two CRC cells do not.
+#[tactic(auto, unfolding(crate::specs::Transfers::read_transfer))]
 fn read(s: Seen, left: u16, crc: u16, deleted: bool) -> Transfer
     ensures { result ≡ read_transfer s left crc deleted }
 {
@@ -30,6 +31,7 @@ fn read(s: Seen, left: u16, crc: u16, deleted: bool) -> Transfer
 }
 
 // A data cell takes DR. After the last one DRQ is off.
+#[tactic(auto, unfolding(crate::specs::Transfers::write_transfer))]
 fn write(s: Seen, left: u16, crc: u16) -> Transfer
     ensures { result ≡ write_transfer s left crc }
 {
@@ -45,6 +47,7 @@ fn write(s: Seen, left: u16, crc: u16) -> Transfer
 }
 
 // A cell of a Write Track takes DR. After the last one, and after the first of an F7, DRQ is off.
+#[tactic(auto, unfolding(crate::specs::Transfers::format_transfer))]
 fn format(s: Seen, crc: u16) -> Transfer
     ensures { result ≡ format_transfer s crc }
 {
@@ -60,6 +63,7 @@ fn format(s: Seen, crc: u16) -> Transfer
 }
 
 // What is transferred in this byte time.
+#[tactic(auto, unfolding(crate::specs::Transfers::transfer_in))]
 pub fn transferred(s: Seen, activity: Activity) -> Transfer
     ensures { result ≡ transfer_in s activity }
 {

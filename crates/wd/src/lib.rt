@@ -88,6 +88,7 @@ pub struct Turn {
     pub pulse: Pulse,
 }
 
+#[tactic(auto, unfolding(crate::specs::Rows::refused_at))]
 fn refused(number: u8, machine: Machine) -> Passed
     ensures { result ≡ refused_at number machine }
 {
@@ -98,6 +99,7 @@ fn refused(number: u8, machine: Machine) -> Passed
     }
 }
 
+#[tactic(auto, unfolding(crate::specs::Rows::done_by))]
 fn done(turn: Turn) -> Passed
     ensures { result ≡ done_by turn }
 {
@@ -111,6 +113,7 @@ fn done(turn: Turn) -> Passed
 }
 
 // A run goes no further after this byte time.
+#[tactic(auto, unfolding(crate::specs::Rows::stops_at))]
 fn stops(passed: Passed) -> bool
     ensures { result ≡ stops_at passed }
 {
@@ -120,6 +123,7 @@ fn stops(passed: Passed) -> bool
 }
 
 // One byte time more; a refused one counts nothing.
+#[tactic(auto, unfolding(crate::specs::Rows::counted_of, crate::specs::Rows::tallied))]
 fn counted(tally: Tally, number: u8, pulse: Pulse) -> Tally
     requires { (tally.passed < 65535) × ((tally.inward ≤ tally.passed) × (tally.outward ≤ tally.passed)) }
     ensures value { result ≡ counted_of tally number pulse }
@@ -147,6 +151,7 @@ fn counted(tally: Tally, number: u8, pulse: Pulse) -> Tally
     }
 }
 
+#[tactic(auto, unfolding(crate::specs::Rows::ran_to))]
 fn ran_to(tally: Tally, passed: Passed) -> Ran
     requires { (tally.passed < 65535) × ((tally.inward ≤ tally.passed) × (tally.outward ≤ tally.passed)) }
     ensures value { result ≡ ran_to tally passed }
@@ -162,6 +167,7 @@ fn ran_to(tally: Tally, passed: Passed) -> Ran
     }
 }
 
+#[tactic(auto, unfolding(crate::specs::Rows::empty_run))]
 fn empty_run(number: u8, machine: Machine) -> Ran
     ensures { result ≡ empty_run number machine }
 {
@@ -177,6 +183,7 @@ fn empty_run(number: u8, machine: Machine) -> Ran
 }
 
 // A run after a stretch.
+#[tactic(auto, unfolding(crate::specs::Stretches::ran_on))]
 fn ran_on(ran: Ran, passed: u16, ready: bool) -> Ran
     requires { (ran.tally.passed + passed < 65536) × (ran.machine.ring.position + passed < 65536) }
     ensures { result ≡ ran_on ran passed ready }
@@ -198,6 +205,7 @@ fn ran_on(ran: Ran, passed: u16, ready: bool) -> Ran
 }
 
 // A run of the one byte time after which the machine is this.
+#[tactic(auto, unfolding(crate::specs::Transfers::one_byte_time))]
 fn one_byte_time(machine: Machine) -> Ran
     ensures { result ≡ one_byte_time machine }
 {
@@ -251,6 +259,7 @@ fn run_on(start: Ran, lines: Lines, limit: u16, row: &mut [u16]) -> Ran
 }
 
 impl Machine {
+    #[tactic(auto, unfolding(crate::specs::Machines::fresh_machine))]
     fn fresh(length: u16, mfm: bool, chip: Chip) -> Machine
         ensures { result ≡ fresh_machine length mfm chip }
     {
@@ -292,6 +301,7 @@ impl Machine {
     }
 
     // The machine at power-on, for a row of so many cells, a density and a chip.
+    #[tactic(auto, unfolding(crate::specs::Machines::power_on))]
     pub fn power_on(length: u16, mfm: bool, chip: Chip) -> Started
         ensures { result ≡ power_on length mfm chip }
     {
@@ -309,6 +319,7 @@ impl Machine {
     }
 
     // What refusal 2 asks.
+    #[tactic(auto, unfolding(crate::specs::Machines::valid_of))]
     fn valid(self) -> bool
         ensures { result ≡ valid_of self }
     {
@@ -318,6 +329,7 @@ impl Machine {
     }
 
     // The status byte under these lines; looking at it changes nothing.
+    #[tactic(auto, unfolding(crate::specs::Reads::status_of))]
     fn status(self, lines: Lines) -> Status
         ensures { result ≡ status_of self lines }
     {
@@ -343,6 +355,7 @@ impl Machine {
     }
 
     // Reads a register.
+    #[tactic(auto, unfolding(crate::specs::Reads::read_register))]
     pub fn read_register(self, lines: Lines, number: u8) -> Read
         ensures { result ≡ read_register self lines number }
     {
@@ -365,6 +378,7 @@ impl Machine {
     }
 
     // An accepted command. Types II and III look: not ready ends it at once, and next a write under protection.
+    #[tactic(auto, unfolding(crate::specs::Loads::command_begun))]
     fn begin(self, lines: Lines, byte: u8, command: Command) -> Machine
         ensures { result ≡ command_begun self lines byte command }
     {
@@ -400,6 +414,7 @@ impl Machine {
         }
     }
 
+    #[tactic(auto, unfolding(crate::specs::Loads::command_answer))]
     fn command(self, lines: Lines, byte: u8, decoded: Decoded) -> Loaded
         ensures { result ≡ command_answer self lines byte decoded }
     {
@@ -416,6 +431,7 @@ impl Machine {
     }
 
     // Loads a register.
+    #[tactic(auto, unfolding(crate::specs::Loads::load_register))]
     pub fn load_register(self, lines: Lines, number: u8, byte: u8) -> Loaded
         ensures { result ≡ load_register self lines number byte }
     {
@@ -452,6 +468,7 @@ impl Machine {
     }
 
     // The machine after an act, the cell as it is left, and the step pulse.
+    #[tactic(auto, unfolding(crate::specs::Turns::act_applied))]
     fn applied(self, act: Act, ready: bool, index: bool) -> Turn
         ensures { result ≡ act_applied self act ready index }
     {
@@ -511,6 +528,7 @@ impl Machine {
         }
     }
 
+    #[tactic(auto, unfolding(crate::specs::Turns::cell_turn))]
     fn turn(self, lines: Lines, cell: u16) -> Turn
         ensures { result ≡ cell_turn self lines cell }
     {
@@ -524,6 +542,7 @@ impl Machine {
     }
 
     // What refusals 2 and 3 ask.
+    #[tactic(auto, unfolding(crate::specs::Rows::row_refusal))]
     fn row_refusal(self, length: usize) -> u8
         ensures { result ≡ row_refusal self length }
     {
@@ -536,6 +555,7 @@ impl Machine {
     }
 
     // The cell under the head passes. Whoever calls has looked at refusals 2 and 3.
+    #[tactic(auto, unfolding(crate::specs::Rows::byte_time, crate::specs::Rows::byte_time_row))]
     fn pass(self, lines: Lines, row: &mut [u16]) -> Passed
         requires { row_refusal self (length row.old) ≡ 0 }
         ensures { (result ≡ byte_time self lines row.old) × (row.new ≡ byte_time_row self lines row.old) }
@@ -562,6 +582,7 @@ impl Machine {
     }
 
     // The machine after so many of them.
+    #[tactic(auto, unfolding(crate::specs::Stretches::after_stretch))]
     fn stretched(self, passed: u16, ready: bool) -> Machine
         requires { self.ring.position + passed < 65536 }
         ensures { result ≡ after_stretch self passed ready }
@@ -597,6 +618,7 @@ impl Machine {
 
     // The byte times of a stretch that a run begins with. None where a wire is on, since the run stops there; nor where Ready is
     // seen anew, since a condition may be met.
+    #[tactic(auto, unfolding(crate::specs::Stretches::first_stretch))]
     fn first(self, ready: bool, limit: u16, row: &mut [u16]) -> u16
         ensures value { (result ≡ first_stretch self ready limit row.old) × (row.new ≡ row.old) }
         ensures upper_bound { result ≤ limit }
@@ -611,6 +633,7 @@ impl Machine {
 
     // The byte transferred, where the cell is not refused and no condition of a Force Interrupt is asked. A command that
     // transfers bytes has dropped all conditions; a machine that no calls lead to may have one, and the loop handles it.
+    #[tactic(auto, unfolding(crate::specs::Transfers::transfer_now))]
     fn transferred(self, lines: Lines, cell: u16) -> Transfer
         ensures { result ≡ transfer_now self lines cell }
     {
@@ -632,6 +655,7 @@ impl Machine {
     }
 
     // The machine after the byte time in which it was transferred.
+    #[tactic(auto, unfolding(crate::specs::Transfers::after_transfer))]
     fn after_transfer(self, ready: bool, dr: u8, next: Activity) -> Machine
         ensures { result ≡ after_transfer self ready dr next }
     {
@@ -707,6 +731,7 @@ impl Machine {
     }
 
     // One byte time over the lent row.
+    #[tactic(auto, unfolding(crate::specs::Rows::byte_time, crate::specs::Rows::byte_time_row))]
     pub fn byte_time(self, lines: Lines, row: &mut [u16]) -> Passed
         ensures { (result ≡ byte_time self lines row.old) × (row.new ≡ byte_time_row self lines row.old) }
     {

@@ -8,6 +8,7 @@ use activity::{Act, Activity, Deed, Seen, taken};
 use search::again;
 
 // Byte times after the ID's last cell, numbered from 1: up to this one the cells are kept.
+#[tactic(auto, unfolding(crate::specs::Writing::last_kept))]
 fn last_kept(mfm: bool) -> u16
     ensures { result ≡ last_kept mfm }
 {
@@ -15,6 +16,7 @@ fn last_kept(mfm: bool) -> u16
 }
 
 // Up to this one they become 00.
+#[tactic(auto, unfolding(crate::specs::Writing::last_zero, crate::specs::Writing::last_kept))]
 fn last_zero(mfm: bool) -> u16
     ensures { result ≡ last_zero mfm }
 {
@@ -22,6 +24,7 @@ fn last_zero(mfm: bool) -> u16
 }
 
 // And this one becomes the mark.
+#[tactic(auto, unfolding(crate::specs::Writing::mark_place, crate::specs::Writing::last_zero, crate::specs::Writing::last_kept, scan::specs::Marks::lead_of))]
 fn mark_place(mfm: bool) -> u16
     ensures value { result ≡ mark_place mfm }
     ensures upper_bound { result ≤ 38 }
@@ -29,6 +32,7 @@ fn mark_place(mfm: bool) -> u16
     if mfm { 38 } else { 18 }
 }
 
+#[tactic(auto, unfolding(crate::specs::Writing::mark_cell))]
 fn mark_cell(mfm: bool, byte: u8) -> u16
     ensures { result ≡ mark_cell mfm byte }
 {
@@ -36,6 +40,7 @@ fn mark_cell(mfm: bool, byte: u8) -> u16
 }
 
 // What the n-th cell after the ID becomes.
+#[tactic(auto, unfolding(crate::specs::Writing::preamble_cell))]
 fn preamble_cell(mfm: bool, n: u16, mark: u8, cell: u16) -> u16
     ensures { result ≡ preamble_cell mfm n mark cell }
 {
@@ -51,6 +56,7 @@ fn preamble_cell(mfm: bool, n: u16, mark: u8, cell: u16) -> u16
     mark_cell(mfm, mark)
 }
 
+#[tactic(auto, unfolding(crate::specs::Writing::preamble_next))]
 fn preamble_next(mfm: bool, left: u16, n: u16, mark: u8) -> Activity
     ensures { result ≡ preamble_next mfm left n mark }
 {
@@ -61,6 +67,7 @@ fn preamble_next(mfm: bool, left: u16, n: u16, mark: u8) -> Activity
     }
 }
 
+#[tactic(auto, unfolding(crate::specs::Writing::preamble_deed))]
 fn asks(n: u16) -> Deed
     ensures { result ≡ preamble_deed n }
 {
@@ -72,6 +79,7 @@ fn asks(n: u16) -> Deed
 }
 
 // A cell after the ID, up to the mark.
+#[tactic(auto, unfolding(crate::specs::Writing::preamble_turn))]
 pub fn preamble(s: Seen, mark: u8, left: u16, passed: u8) -> Act
     ensures { result ≡ preamble_turn s mark left passed }
 {
@@ -91,6 +99,7 @@ pub fn preamble(s: Seen, mark: u8, left: u16, passed: u8) -> Act
 }
 
 // A cell after the mark: data, the two CRC bytes, the FF.
+#[tactic(auto, unfolding(crate::specs::Writing::put_cell))]
 pub fn put(s: Seen, multiple: bool, left: u16, crc: u16) -> Act
     ensures { result ≡ put_cell s multiple left crc }
 {
