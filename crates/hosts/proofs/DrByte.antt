@@ -15,7 +15,7 @@ use Rattle.activity.specs.declared.Seen.{Seen}
 use Rattle.activity.specs.declared.Act.{Act}
 use Rattle.activity.specs.declared.Activity.{Activity}
 use Rattle.activity.specs.declared.Deed.{Deed}
-use Rattle.activity.specs.declared.Deed.TheVariants.{Nothing, Deliver, Named, Matched, NotFound, Record, Late, Step, Halt}
+use Rattle.activity.specs.declared.Deed.TheVariants.{Nothing, Deliver, Named, Matched, NotFound, Record, Written, Ask, Take, Late, Step, Halt}
 use Rattle.writing.specs.Writing.{preamble_deed}
 use Rattle.act.proofs.Acts.{Passes, Writes, Acts, turns}
 use Rattle.registers.specs.declared.Lines.{Lines}
@@ -48,6 +48,9 @@ module _ (o : Order) (s : Seen) (p : Parts) (low : Holds p) where
   passed (Matched bad) x = low
   passed NotFound x = low
   passed (Record deleted bad follows) x = low
+  passed (Written follows) x = elim x [ ]
+  passed (Ask more) x = elim x [ ]
+  passed (Take more) x = elim x [ ]
   passed Late x = low
   passed (Step inward track) x = low
   passed (Halt rule load) x = low

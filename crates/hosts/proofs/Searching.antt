@@ -43,8 +43,8 @@ writes_two = writes
 
 pub begun_two : (j : Job) → TypeTwo j → (s : Seen) → job_begun s j ≡ afresh 0
 unfolding job_begun
-begun_two job.ReadSector reads s = refl
-begun_two job.WriteSector writes s = refl
+begun_two _ reads s = refl
+begun_two _ writes s = refl
 
 -- ---- what a cell does
 
@@ -66,8 +66,8 @@ matches_two : (o : Order) (s : Seen) (id : Id) (j : Job)
     → TypeTwo j
     → matches_for o s id j ≡ (eqb id.track s.tr && eqb id.sector s.sr && side_matches id.side o.side)
 unfolding matches_for sector_matches
-matches_two o s id job.ReadSector reads = refl
-matches_two o s id job.WriteSector writes = refl
+matches_two o s id _ reads = refl
+matches_two o s id _ writes = refl
 
 module _ (o : Order) (s : Seen) (two : TypeTwo (job_of o.command)) (pulses : ℕ) where
   matched_on :

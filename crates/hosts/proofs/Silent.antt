@@ -47,13 +47,22 @@ module _ (o : Order) (s : Seen) where
       begins : {j : Job} → TypeTwo j → Early (job_begun s j)
       begins reads = searches
       begins writes = searches
+  early_on two early Enters.opened = elim early [ ]
 
   silent : {a : Activity} {act : Act} → Early a → Acts o s a act → Silent act.deed
   silent settles (Acts.passes Passes.settles) = nothing
+  silent settles (Acts.passes (Passes.stop_fails st)) = elim st [ ]
+  silent settles (Acts.passes (Passes.stop_verifies st e)) = elim st [ ]
+  silent settles (Acts.passes (Passes.stop_halts st)) = elim st [ ]
+  silent settles (Acts.writes f w) = elim w [ ]
   silent searches (Acts.passes Passes.search_fails) = lost
   silent searches (Acts.passes (Passes.search_goes_on few e)) = nothing
   silent searches (Acts.passes (Passes.bad_match few)) = matched true
   silent searches (Acts.passes (Passes.good_match id)) = matched false
+  silent searches (Acts.passes (Passes.stop_fails st)) = elim st [ ]
+  silent searches (Acts.passes (Passes.stop_verifies st e)) = elim st [ ]
+  silent searches (Acts.passes (Passes.stop_halts st)) = elim st [ ]
+  silent searches (Acts.writes f w) = elim w [ ]
 
   pub early_silent : (a : Activity) → TypeTwo (job_of o.command) → Early a → Silent (act_of o s a).deed
   early_silent a two early = silent (early_on two early (enters o s a)) (turns o s a)
