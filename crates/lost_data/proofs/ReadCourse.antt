@@ -67,23 +67,51 @@ module _ (o : Order) (s : Seen) where
   acted : {j : Job} {a : Activity} {act : Act} → job_of o.command ≡ j → Reading j a → Acts o s a act → ReadAct j act
   unfolding after_match
   acted is over (Acts.passes Passes.idles) = record { next = over; deed = nothing }
+  acted is over (Acts.passes (Passes.stop_fails st)) = elim st [ ]
+  acted is over (Acts.passes (Passes.stop_verifies st e)) = elim st [ ]
+  acted is over (Acts.passes (Passes.stop_halts st)) = elim st [ ]
+  acted is over (Acts.writes f w) = elim w [ ]
   acted is (settles read) (Acts.passes Passes.settles) = record { next = settles read; deed = nothing }
+  acted is (settles read) (Acts.passes (Passes.stop_fails st)) = elim st [ ]
+  acted is (settles read) (Acts.passes (Passes.stop_verifies st e)) = elim st [ ]
+  acted is (settles read) (Acts.passes (Passes.stop_halts st)) = elim st [ ]
+  acted is (settles read) (Acts.writes f w) = elim w [ ]
   acted is searches (Acts.passes Passes.search_fails) = record { next = over; deed = fails }
   acted is searches (Acts.passes (Passes.search_goes_on few e)) = record { next = searches; deed = nothing }
   acted is searches (Acts.passes (Passes.bad_match few)) = record { next = searches; deed = matches }
   acted is searches (Acts.passes (Passes.good_match id)) = record { next = rw is in_window; deed = matches }
+  acted is searches (Acts.passes (Passes.stop_fails st)) = elim st [ ]
+  acted is searches (Acts.passes (Passes.stop_verifies st e)) = elim st [ ]
+  acted is searches (Acts.passes (Passes.stop_halts st)) = elim st [ ]
+  acted is searches (Acts.writes f w) = elim w [ ]
   acted is in_window (Acts.passes Passes.mark_met) = record { next = in_data; deed = nothing }
   acted is in_window (Acts.passes (Passes.window_goes_on more e)) = record { next = in_window; deed = nothing }
   acted is in_window (Acts.passes Passes.window_fails) = record { next = over; deed = fails }
+  acted is in_window (Acts.passes (Passes.stop_fails st)) = elim st [ ]
+  acted is in_window (Acts.passes (Passes.stop_verifies st e)) = elim st [ ]
+  acted is in_window (Acts.passes (Passes.stop_halts st)) = elim st [ ]
+  acted is in_window (Acts.writes f w) = elim w [ ]
   acted is in_data (Acts.passes (Passes.data_byte more)) = record { next = in_data; deed = delivers }
   acted is in_data (Acts.passes (Passes.data_crc e)) = record { next = in_data; deed = nothing }
   acted is in_data (Acts.passes Passes.record_over) = record { next = over; deed = records }
   acted is in_data (Acts.passes (Passes.record_follows_lem on)) = record { next = searches; deed = records }
+  acted is in_data (Acts.passes (Passes.stop_fails st)) = elim st [ ]
+  acted is in_data (Acts.passes (Passes.stop_verifies st e)) = elim st [ ]
+  acted is in_data (Acts.passes (Passes.stop_halts st)) = elim st [ ]
+  acted is in_data (Acts.writes f w) = elim w [ ]
   acted is hunts (Acts.passes Passes.hunt_fails) = record { next = over; deed = fails }
   acted is hunts (Acts.passes (Passes.hunt_goes_on few e)) = record { next = hunts; deed = nothing }
   acted is hunts (Acts.passes Passes.id_met) = record { next = in_address; deed = nothing }
+  acted is hunts (Acts.passes (Passes.stop_fails st)) = elim st [ ]
+  acted is hunts (Acts.passes (Passes.stop_verifies st e)) = elim st [ ]
+  acted is hunts (Acts.passes (Passes.stop_halts st)) = elim st [ ]
+  acted is hunts (Acts.writes f w) = elim w [ ]
   acted is in_address (Acts.passes (Passes.address_byte more)) = record { next = in_address; deed = delivers }
   acted is in_address (Acts.passes Passes.address_over) = record { next = over; deed = names }
+  acted is in_address (Acts.passes (Passes.stop_fails st)) = elim st [ ]
+  acted is in_address (Acts.passes (Passes.stop_verifies st e)) = elim st [ ]
+  acted is in_address (Acts.passes (Passes.stop_halts st)) = elim st [ ]
+  acted is in_address (Acts.writes f w) = elim w [ ]
 
   pub read_act : {a : Activity} → Reading (job_of o.command) a → ReadAct (job_of o.command) (act_of o s a)
   read_act {a} reading = acted refl (begun refl reading) (turns o s a)

@@ -110,6 +110,10 @@ module _ (o : Order) (s : Seen) where
   searched is (Acts.passes (Passes.search_goes_on few e)) = record { next = searches; deed = leaves nothing }
   searched is (Acts.passes (Passes.bad_match few)) = record { next = searches; deed = leaves matches }
   searched is (Acts.passes (Passes.good_match id)) = record { next = rw is in_preamble; deed = leaves matches }
+  searched is (Acts.passes (Passes.stop_fails st)) = elim st [ ]
+  searched is (Acts.passes (Passes.stop_verifies st e)) = elim st [ ]
+  searched is (Acts.passes (Passes.stop_halts st)) = elim st [ ]
+  searched is (Acts.writes f w) = elim w [ ]
 
   -- "Still on at 10: Lost Data, end"
   preamble : (left passed : ℕ) → Goes job.WriteSector (preamble_turn s (mark_byte (mark_written o.byte)) left passed)
