@@ -85,20 +85,20 @@ module _ {s : Scene} {command : Command} (x : Stays s command) where
   module _ (two : TypeTwo (job_of command)) (single : is_multiple s.byte ≡ false) where
     served_counted : (ibm : Bool) (length : ℕ) (j : Job) → TypeTwo j → Counted view.order (after_match ibm length j)
     unfolding order_of after_match Counted
-    served_counted ibm length job.ReadSector reads = single
-    served_counted ibm length job.WriteSector writes = single
+    served_counted ibm length _ reads = single
+    served_counted ibm length _ writes = single
 
     served_still : (ibm : Bool) (length : ℕ) (j : Job) → TypeTwo j → seeks (after_match ibm length j) ≡ false
     unfolding after_match seeks
-    served_still ibm length job.ReadSector reads = refl
-    served_still ibm length job.WriteSector writes = refl
+    served_still ibm length _ reads = refl
+    served_still ibm length _ writes = refl
 
     served_left : (ibm : Bool) (n : ℕ) (r : Ring) (j : Job) → TypeTwo j
         → left_of view.order view.mfm 0 r view.tr (after_match ibm n j) ≤ 1069
     unfolding after_match left_of
-    served_left ibm n r job.ReadSector reads =
+    served_left ibm n r _ reads =
         omega (arith, (field_most view.mfm (field_size ibm n) (field_size_most ibm n)).0, (field_some view.mfm).0)
-    served_left ibm n r job.WriteSector writes =
+    served_left ibm n r _ writes =
         omega (arith, (field_most view.mfm (field_size ibm n) (field_size_most ibm n)).1, (field_some view.mfm).1)
 
     short_search : Short (id_search (low_working x) two (low_heads x))
