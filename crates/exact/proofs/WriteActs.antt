@@ -69,10 +69,18 @@ module _ (o : Order) (s : Seen) where
   module _ (job_is : job_of o.command ≡ job.WriteSector) where
     acted : {a : Activity} {act : Act} → Early a → Acts o s a act → EarlyAct act
     acted settles (Acts.passes Passes.settles) = goes_on settles nothing
+    acted settles (Acts.passes (Passes.stop_fails st)) = elim st [ ]
+    acted settles (Acts.passes (Passes.stop_verifies st e)) = elim st [ ]
+    acted settles (Acts.passes (Passes.stop_halts st)) = elim st [ ]
+    acted settles (Acts.writes f w) = elim w [ ]
     acted searches (Acts.passes Passes.search_fails) = fails
     acted searches (Acts.passes (Passes.search_goes_on few e)) = goes_on searches nothing
     acted searches (Acts.passes (Passes.bad_match few)) = goes_on searches (matched true)
     acted searches (Acts.passes (Passes.good_match id)) = found_act id.length (job_of o.command) job_is
+    acted searches (Acts.passes (Passes.stop_fails st)) = elim st [ ]
+    acted searches (Acts.passes (Passes.stop_verifies st e)) = elim st [ ]
+    acted searches (Acts.passes (Passes.stop_halts st)) = elim st [ ]
+    acted searches (Acts.writes f w) = elim w [ ]
 
     pub early_act : (a : Activity) → Early a → EarlyAct (act_of o s a)
     early_act a early = acted (early_on o s (rw job_is writes) early (enters o s a)) (turns o s a)
