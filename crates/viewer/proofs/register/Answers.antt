@@ -10,7 +10,7 @@ pub loop-at-preserved : goal.loop-at-preserved
 loop-at-preserved c =
     sym
     (register_on _ _ _ _ _ _ _ _ (more _ _ c.loop-at-test.true) (add-one _) c.cell.ensures
-    c.step.ensures)
+    c.step-register.ensures)
     ∙ c.loop-at.invariant
 
 pub returns : goal.returns

@@ -1,29 +1,29 @@
-use Rattle.std.proofs.Common.{rules, ◌≡◌, true, ◌-◌, length, ℕ, ◌+◌, ◌*◌, ◌<◌, ◌≤◌, ◌/◌, ◌%◌, Bool, false, nat_eq, nat_lt, List, [], ◌∷◌, ◌++◌, slice_index_or, slice_set, bit_and, bit_or, Fits, w8, w32, w64, Bor, MutBor}
-use Rattle.scan.specs.Rows.{length_within}
-use Rattle.viewer.specs.Sectors.{register_over, span_behind, span_in, behind_in, span_on}
-use Rattle.viewer.specs.Views.{cells_within, view_refusal, second_place, place_of, part_cells, part_start, number_of}
+-- The search goes along the side's IDs, and ends at the first that is followed by such a sector.
+use Rattle.std.proofs.Common.{arith}
+use Rattle.scan.proofs.Rows.{within_most}
+use Rattle.viewer.proofs.Search.{starts, over, ends, again, less}
 use Rattle.viewer.proofs.span_on.Goals as goal
 
--- src/lib.rt:93:14
 pub overflow_cast-to : goal.overflow_cast-to
-overflow_cast-to c = ?
+overflow_cast-to c = record { fits = omega (arith, within_most _ c.requires) }
 
--- src/lib.rt:95:5
 pub loop-from-init : goal.loop-from-init
-loop-from-init c = ?
+loop-from-init c = starts _ _ _ _
 
--- src/lib.rt:101:17
 pub returns-in-Cells : goal.returns-in-Cells
-returns-in-Cells c = ?
+returns-in-Cells c =
+    ends _ _ _ _ _ _ _ c.loop-from-test.true c.loop-from.invariant
+    c.next_id-found.ensures c.span_in-span.ensures _ _ c.in-Cells.is
 
--- src/lib.rt:95:5
 pub loop-from-smaller : goal.loop-from-smaller
-loop-from-smaller c = ?
+loop-from-smaller c =
+    less _ _ _ _ _ _ _ c.loop-from-test.true c.loop-from.invariant
+    c.next_id-found.ensures c.span_in-span.ensures _ c.behind_in-from.ensures
 
--- src/lib.rt:95:5
 pub loop-from-preserved : goal.loop-from-preserved
-loop-from-preserved c = ?
+loop-from-preserved c =
+    again _ _ _ _ _ _ _ c.loop-from-test.true c.loop-from.invariant
+    c.next_id-found.ensures c.span_in-span.ensures _ c.in-Nowhere.is c.behind_in-from.ensures
 
--- src/lib.rt:89:1
 pub returns : goal.returns
-returns c = ?
+returns c = over _ _ _ _ _ c.loop-from.invariant c.loop-from-test.false
