@@ -21,6 +21,7 @@ pub fn fill(streams: &mut Streams, buffer: &mut [u8], held: usize) -> usize
 }
 
 // Moves the bytes held after the first ones to the buffer's front, and hands back how many they are.
+#[tactic(auto, unfolding(common::specs::Laid::laid_row))]
 pub fn keep(buffer: &mut [u8], from: usize, held: usize) -> usize
     requires { (from ≤ held) × (held ≤ length buffer.old) }
     ensures value { result ≡ held - from }
