@@ -3,7 +3,7 @@ ghost use Rattle.std.specs.Prelude.{◌≡◌};
 ghost use Rattle.bench.specs.States.{state_of};
 
 use crate::output;
-use crate::output::Buffer;
+use crate::output::Outgoing;
 use command::Chip;
 use registers::{Lines, Regs, Wires};
 use wd::{Machine, Tally};
@@ -51,7 +51,7 @@ fn state_of(machine: Machine, lines: Lines) -> State
 }
 
 // The side output, where the chip has one.
-fn put_side(out: &mut Buffer, waiting: u16, chip: Chip, sso: bool) -> u16 {
+fn put_side(out: &mut Outgoing, waiting: u16, chip: Chip, sso: bool) -> u16 {
     match chip {
         Chip::Wd1793 => {
             return waiting;
@@ -62,7 +62,7 @@ fn put_side(out: &mut Buffer, waiting: u16, chip: Chip, sso: bool) -> u16 {
     }
 }
 
-fn put_state(out: &mut Buffer, waiting: u16, state: State) -> u16 {
+fn put_state(out: &mut Outgoing, waiting: u16, state: State) -> u16 {
     let regs = state.regs;
     let wires = state.wires;
     let chip = state.chip;
@@ -81,7 +81,7 @@ fn put_state(out: &mut Buffer, waiting: u16, state: State) -> u16 {
     put_side(out, third, chip, state.sso)
 }
 
-fn put_answer(out: &mut Buffer, waiting: u16, answer: Answer) -> u16 {
+fn put_answer(out: &mut Outgoing, waiting: u16, answer: Answer) -> u16 {
     match answer {
         Answer::Nothing => {
             return waiting;
@@ -106,7 +106,7 @@ fn put_answer(out: &mut Buffer, waiting: u16, answer: Answer) -> u16 {
 }
 
 pub fn print(
-    out: &mut Buffer,
+    out: &mut Outgoing,
     waiting: u16,
     letter: u8,
     answer: Answer,

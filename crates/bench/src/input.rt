@@ -2,9 +2,47 @@
 ghost use Rattle.std.specs.Prelude.{◌≤◌};
 
 use crate::output;
-use crate::output::Buffer;
-use libc::STDIN_FILENO;
+use crate::output::{Buffer, Outgoing};
 use script::{Line, Reader};
+use std::io;
+use std::io::Stdin;
+
+// Standard input, the bytes that were read from it last, and how the reads have gone so far: one that fails is kept for `main`
+// to end with.
+#[derive(Drop)]
+pub struct Incoming {
+    stdin: Stdin,
+    bytes: Buffer,
+    outcome: io::Result<()>,
+}
+
+impl Incoming {
+    pub fn start(stdin: Stdin) -> Incoming {
+        Incoming {
+            stdin,
+            bytes: [0; 65536],
+            outcome: Ok(()),
+        }
+    }
+
+    // Reads once, and says how many bytes came: none where the input is over, which a failed read counts as.
+    fn read(&mut self) -> usize
+        ensures { result ≤ 65536 }
+    {
+        match io::Read::read(&mut self.stdin, &mut self.bytes) {
+            Ok(count) => count,
+            Err(error) => {
+                self.outcome = Err(error);
+                0
+            }
+        }
+    }
+
+    // The error of a read, where there was one.
+    pub fn outcome(self) -> io::Result<()> {
+        self.outcome
+    }
+}
 
 // Where in the buffer the next byte stands, how many from there on are still to be taken, and whether the input is over.
 #[derive(Clone, Copy)]
@@ -41,7 +79,7 @@ impl Source {
 
 // Where the next byte is still to be read, the bytes of output that wait go out first: who types a line may wait for its
 // answer before typing the next one.
-fn flush_before_read(source: Source, out: &Buffer, waiting: u16) -> u16 {
+fn flush_before_read(source: Source, out: &mut Outgoing, waiting: u16) -> u16 {
     if 0 < source.left {
         return waiting;
     }
@@ -50,12 +88,11 @@ fn flush_before_read(source: Source, out: &Buffer, waiting: u16) -> u16 {
 }
 
 // Reads once more where nothing is left.
-fn filled(source: Source, buffer: &mut Buffer) -> Source {
+fn filled(source: Source, input: &mut Incoming) -> Source {
     if 0 < source.left {
         return source;
     }
-    let got = libc::read(STDIN_FILENO, buffer);
-    let left = io::count(got, buffer);
+    let left = input.read();
     Source {
         at: 0,
         left,
@@ -64,8 +101,8 @@ fn filled(source: Source, buffer: &mut Buffer) -> Source {
 }
 
 // Takes the next byte.
-fn take(source: Source, buffer: &mut Buffer) -> Taken {
-    let ready = filled(source, buffer);
+fn take(source: Source, input: &mut Incoming) -> Taken {
+    let ready = filled(source, input);
     let at = ready.at;
     let left = ready.left;
     if left == 0 {
@@ -75,9 +112,9 @@ fn take(source: Source, buffer: &mut Buffer) -> Taken {
         };
     }
     Taken {
-        byte: buffer[at as usize],
+        byte: input.bytes[at as usize],
         source: Source {
-            at: std::num::wrapping_add_u16(at, 1),
+            at: at.wrapping_add(1),
             left: left - 1,
             over: false,
         },
@@ -86,7 +123,7 @@ fn take(source: Source, buffer: &mut Buffer) -> Taken {
 
 // Reads a line, to its newline; of the output so many bytes wait. A proved loop has to end: so the bytes are counted down,
 // from a number that no line has.
-pub fn next_line(source: Source, buffer: &mut Buffer, out: &Buffer, waiting: u16) -> Read
+pub fn next_line(source: Source, input: &mut Incoming, out: &mut Outgoing, waiting: u16) -> Read
     ensures { result.line.count ≤ 65 }
 {
     let mut reader = Reader::start();
@@ -95,7 +132,7 @@ pub fn next_line(source: Source, buffer: &mut Buffer, out: &Buffer, waiting: u16
     let mut left = u64::MAX;
     while 0 < left {
         count = flush_before_read(rest, out, count);
-        let taken = take(rest, buffer);
+        let taken = take(rest, input);
         let byte = taken.byte;
         rest = taken.source;
         if byte == b'\n' {

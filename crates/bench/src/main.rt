@@ -10,9 +10,10 @@ mod sessions;
 mod tasks;
 mod views;
 
-use input::Source;
-use output::Buffer;
+use input::{Incoming, Source};
+use output::Outgoing;
 use rows::Cells;
+use std::io;
 
 // How a script ended: how many bytes of output wait, and the number of the line that could not be carried out, or 0.
 #[derive(Clone, Copy)]
@@ -23,14 +24,14 @@ struct Ended {
 
 // Works the whole script. A proved loop has to end, and nothing says that the input does: so it ends at a line's number that
 // no script reaches.
-fn work(cells: &mut Cells, buffer: &mut Buffer, out: &mut Buffer) -> Ended {
+fn work(cells: &mut Cells, input: &mut Incoming, out: &mut Outgoing) -> Ended {
     let mut machine = calls::start();
     let mut session = sessions::start();
     let mut source = Source::start();
     let mut number = 0u64;
     while number < u64::MAX {
         number += 1;
-        let read = input::next_line(source, buffer, out, session.waiting);
+        let read = input::next_line(source, input, out, session.waiting);
         source = read.source;
         session.waiting = read.waiting;
         let request = script::request_of(read.line);
@@ -44,7 +45,7 @@ fn work(cells: &mut Cells, buffer: &mut Buffer, out: &mut Buffer) -> Ended {
                 failed: number,
             };
         }
-        if source.over {
+        if source.over | out.has_failed() {
             return Ended {
                 waiting: session.waiting,
                 failed: 0,
@@ -57,17 +58,19 @@ fn work(cells: &mut Cells, buffer: &mut Buffer, out: &mut Buffer) -> Ended {
     }
 }
 
-fn run(cells: &mut Cells, buffer: &mut Buffer, out: &mut Buffer) {
-    let ended = work(cells, buffer, out);
+fn run(cells: &mut Cells, input: &mut Incoming, out: &mut Outgoing) {
+    let ended = work(cells, input, out);
     output::flush(out, ended.waiting);
     if 0 < ended.failed {
-        output::print_error(ended.failed);
+        output::print_error(out, ended.failed);
     }
 }
 
-fn main() {
+fn main(rt: HostRuntime) -> io::Result<()> {
     let mut cells = [0x00FFu16; rows::BOTH];
-    let mut buffer = io::large_buffer();
-    let mut out = io::large_buffer();
-    run(&mut cells, &mut buffer, &mut out);
+    let mut input = Incoming::start(rt.stdin());
+    let mut out = Outgoing::start(rt.stdout());
+    run(&mut cells, &mut input, &mut out);
+    input.outcome()?;
+    out.outcome()
 }

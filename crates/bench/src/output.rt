@@ -2,28 +2,65 @@
 // back how many wait then, and never loses one: a u16 counts up to the buffer's last place.
 ghost use Rattle.std.specs.Prelude.{◌≤◌, length};
 
-use libc::STDOUT_FILENO;
+use std::io;
+use std::io::Stdout;
 
 // What input and output go through.
 pub type Buffer = [u8; 65536];
 
-// The bytes that still wait go out.
-pub fn flush(out: &[u8], waiting: u16) {
-    let count = io::count(waiting as isize, out);
-    io::write_all(STDOUT_FILENO, &out[..count]);
+// Standard output, the bytes that go there next, and how the writes have gone so far: the first that fails is kept for `main`
+// to end with.
+#[derive(Drop)]
+pub struct Outgoing {
+    stdout: Stdout,
+    bytes: Buffer,
+    outcome: io::Result<()>,
 }
 
-pub fn put(out: &mut Buffer, waiting: u16, byte: u8) -> u16 {
-    out[waiting as usize] = byte;
+impl Outgoing {
+    pub fn start(stdout: Stdout) -> Outgoing {
+        Outgoing {
+            stdout,
+            bytes: [0; 65536],
+            outcome: Ok(()),
+        }
+    }
+
+    fn keep(&mut self, written: io::Result<()>) {
+        if self.outcome.is_ok() {
+            self.outcome = written;
+        }
+    }
+
+    // Whether a write has failed: nobody waits for more.
+    pub fn has_failed(&self) -> bool {
+        self.outcome.is_err()
+    }
+
+    // The first error, where there was one.
+    pub fn outcome(self) -> io::Result<()> {
+        self.outcome
+    }
+}
+
+// The bytes that still wait go out.
+pub fn flush(out: &mut Outgoing, waiting: u16) {
+    let written = out.stdout.write_all(&out.bytes[..waiting as usize]);
+    out.keep(written);
+}
+
+pub fn put(out: &mut Outgoing, waiting: u16, byte: u8) -> u16 {
+    out.bytes[waiting as usize] = byte;
     if waiting < 65535 {
         return waiting + 1;
     }
-    io::write_all(STDOUT_FILENO, out);
+    let written = out.stdout.write_all(&out.bytes);
+    out.keep(written);
     0
 }
 
 // A space and the last so many hexadecimal digits of a number.
-pub fn put_number(out: &mut Buffer, waiting: u16, digits: usize, number: u16) -> u16
+pub fn put_number(out: &mut Outgoing, waiting: u16, digits: usize, number: u16) -> u16
     requires { digits ≤ 4 }
 {
     let hex = text::hex(number);
@@ -38,7 +75,7 @@ pub fn put_number(out: &mut Buffer, waiting: u16, digits: usize, number: u16) ->
 
 // The first so many of four numbers, of so many digits each.
 pub fn put_numbers(
-    out: &mut Buffer,
+    out: &mut Outgoing,
     waiting: u16,
     digits: usize,
     size: usize,
@@ -56,7 +93,7 @@ pub fn put_numbers(
 }
 
 // The cells from one place up to another, which end a line.
-pub fn put_cells(out: &mut Buffer, waiting: u16, cells: &[u16], from: usize, to: usize) -> u16
+pub fn put_cells(out: &mut Outgoing, waiting: u16, cells: &[u16], from: usize, to: usize) -> u16
     requires { to ≤ length cells.now }
 {
     let mut count = waiting;
@@ -69,8 +106,7 @@ pub fn put_cells(out: &mut Buffer, waiting: u16, cells: &[u16], from: usize, to:
 }
 
 // The number of a line that cannot be carried out, in decimal. Nothing waits any more.
-pub fn print_error(number: u64) {
-    io::write_all(STDOUT_FILENO, b"error ");
-    io::print_decimal(STDOUT_FILENO, number);
-    io::write_all(STDOUT_FILENO, b"\n");
+pub fn print_error(out: &mut Outgoing, number: u64) {
+    let written = println!(out.stdout; "error {number}");
+    out.keep(written);
 }

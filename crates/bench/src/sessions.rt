@@ -3,7 +3,7 @@ ghost use Rattle.std.specs.Prelude.{◌≤◌};
 ghost use Rattle.bench.specs.Rows.{RowsFit};
 
 use crate::calls::Answered;
-use crate::output::Buffer;
+use crate::output::Outgoing;
 use crate::rows::{Cells, Rows};
 use crate::{answers, calls, rows, tasks, views};
 use registers::Lines;
@@ -41,7 +41,7 @@ fn work_rows(
     line: Line,
     task: Task,
     cells: &mut Cells,
-    out: &mut Buffer,
+    out: &mut Outgoing,
 ) -> Session
     requires { RowsFit session.rows × (line.count ≤ 65) }
     ensures { RowsFit result.rows }
@@ -64,7 +64,7 @@ pub fn carry_out(
     line: Line,
     request: Request,
     cells: &mut Cells,
-    out: &mut Buffer,
+    out: &mut Outgoing,
 ) -> Session
     requires { RowsFit session.rows × (line.count ≤ 65) }
     ensures { RowsFit result.rows }
@@ -105,7 +105,7 @@ pub fn tell(
     line: Line,
     request: Request,
     answered: Answered,
-    out: &mut Buffer,
+    out: &mut Outgoing,
 ) -> Session
     requires { RowsFit session.rows }
     ensures { RowsFit result.rows }

@@ -3,7 +3,7 @@ ghost use Rattle.std.specs.Prelude.{◌≤◌};
 ghost use Rattle.bench.specs.Rows.{Room, RowsFit};
 ghost use Rattle.bench.specs.Tasks.{ShownFit};
 
-use crate::output::Buffer;
+use crate::output::Outgoing;
 use crate::rows::{Cells, Rows};
 use crate::{output, rows};
 use script::{Line, Task};
@@ -135,7 +135,7 @@ pub fn carry_out(rows: Rows, line: Line, task: Task, cells: &mut Cells) -> Worke
 }
 
 // The letter, and the cells that are shown; nothing of a line that could not be carried out.
-pub fn print(out: &mut Buffer, waiting: u16, letter: u8, worked: Worked, cells: &[u16]) -> u16
+pub fn print(out: &mut Outgoing, waiting: u16, letter: u8, worked: Worked, cells: &[u16]) -> u16
     requires { ShownFit worked × Room cells.now }
 {
     if worked.failed {

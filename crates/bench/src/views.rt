@@ -4,12 +4,12 @@ ghost use Rattle.scan.specs.Rows.{longest_row};
 ghost use Rattle.bench.specs.Rows.{Room, RowsFit};
 
 use crate::output;
-use crate::output::Buffer;
+use crate::output::Outgoing;
 use crate::rows::{ROOM, Rows};
 
 // The letter, the viewer's number, how many cells its part has, and the cells.
 fn put_view<'a>(
-    out: &mut Buffer,
+    out: &mut Outgoing,
     waiting: u16,
     side0: &'a [u16],
     side1: &'a [u16],
@@ -29,7 +29,7 @@ fn put_view<'a>(
 
 // Line Q: side 0 is the current row.
 pub fn print(
-    out: &mut Buffer,
+    out: &mut Outgoing,
     waiting: u16,
     rows: Rows,
     cells: &[u16],

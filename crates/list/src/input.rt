@@ -2,17 +2,26 @@
 ghost use Rattle.std.specs.Prelude.{◌≡◌, ◌-◌, ◌≤◌, length};
 ghost use Rattle.list.specs.Input.{Filled, moved};
 
-use libc::STDIN_FILENO;
+use crate::streams::Streams;
 
 // Reads on until the buffer is full or the input ends. So many bytes are held at its front, and then.
-pub fn fill(buffer: &mut [u8], held: usize) -> usize
+pub fn fill(streams: &mut Streams, buffer: &mut [u8], held: usize) -> usize
     requires { held ≤ length buffer.old }
     ensures { Filled buffer.old held buffer.new result }
 {
-    held + io::read_full(STDIN_FILENO, &mut buffer[held..])
+    let mut done = held;
+    while done < buffer.len() {
+        let count = streams.read(&mut buffer[done..]);
+        if count == 0 {
+            return done;
+        }
+        done += count;
+    }
+    done
 }
 
 // Moves the bytes held after the first ones to the buffer's front, and hands back how many they are.
+#[tactic(auto, unfolding(common::specs::Laid::laid_row))]
 pub fn keep(buffer: &mut [u8], from: usize, held: usize) -> usize
     requires { (from ≤ held) × (held ≤ length buffer.old) }
     ensures value { result ≡ held - from }

@@ -21,6 +21,7 @@ fn put_all(out: &mut [u8], at: usize, piece: &[u8]) -> usize
 }
 
 // A space and two hexadecimal digits.
+#[tactic(auto, unfolding(crate::specs::Lines::byte_text, text::specs::Hex::hex_of))]
 fn put_byte(out: &mut [u8], at: usize, byte: u8) -> usize
     requires { at + 3 ≤ length out.old }
     ensures put { Put out.old at (byte_text byte) out.new result }
@@ -42,6 +43,7 @@ fn put_decimal(out: &mut [u8], at: usize, n: u16) -> usize
 }
 
 // A picture's first line: the letter of its shape, track and side.
+#[tactic(auto, unfolding(crate::specs::Lines::head_text, text::specs::Hex::hex_of))]
 pub fn put_head(out: &mut [u8], at: usize, letter: u8, track: u8, side: u8) -> usize
     requires { at + 7 ≤ length out.old }
     ensures put { Put out.old at (head_text letter track side) out.new result }
@@ -52,6 +54,7 @@ pub fn put_head(out: &mut [u8], at: usize, letter: u8, track: u8, side: u8) -> u
     put_all(out, at, &[letter, b' ', hex[2], hex[3], b' ', digit, b'\n'])
 }
 
+#[tactic(auto, unfolding(crate::specs::Lines::crc_text))]
 fn put_verdict(out: &mut [u8], at: usize, good: bool) -> usize
     requires { at + 5 ≤ length out.old }
     ensures put { Put out.old at (crc_text good) out.new result }
@@ -63,6 +66,7 @@ fn put_verdict(out: &mut [u8], at: usize, good: bool) -> usize
     put_all(out, at, b" bad")
 }
 
+#[tactic(auto, unfolding(crate::specs::Lines::mark_text))]
 fn put_mark(out: &mut [u8], at: usize, behind: Behind) -> usize
     requires { at + 5 ≤ length out.old }
     ensures put { Put out.old at (mark_text behind) out.new result }

@@ -18,6 +18,7 @@ pub struct Listed {
 }
 
 // Where the round begins: the lead of a mark whose byte is cell 0 stands at the ring's end.
+#[tactic(auto, unfolding(scan::specs::Marks::lead_of))]
 fn round_start(mfm: bool, size: u32) -> u32
     requires { 3 ≤ size }
     ensures { result ≡ size - lead_of mfm }

@@ -1,0 +1,54 @@
+// Standard input and output.
+ghost use Rattle.std.specs.Prelude.{◌≤◌, length};
+
+use std::io;
+use std::io::{Read, Stdin, Stdout};
+
+// Both streams, and how the reads and writes have gone so far. The first that fails is kept for `main` to end with: what is
+// printed, and how far the run goes, is settled without it.
+#[derive(Drop)]
+pub struct Streams {
+    stdin: Stdin,
+    stdout: Stdout,
+    outcome: io::Result<()>,
+}
+
+impl Streams {
+    pub fn new(stdin: Stdin, stdout: Stdout) -> Streams {
+        Streams {
+            stdin,
+            stdout,
+            outcome: Ok(()),
+        }
+    }
+
+    // Reads once, and hands back how many bytes came: none at the input's end, which a failed read counts as.
+    pub fn read(&mut self, buffer: &mut [u8]) -> usize
+        ensures { result ≤ length buffer.new }
+    {
+        match self.stdin.read(buffer) {
+            Ok(count) => count,
+            Err(error) => {
+                self.keep(error);
+                0
+            }
+        }
+    }
+
+    pub fn write(&mut self, text: &[u8]) {
+        if let Err(error) = self.stdout.write_all(text) {
+            self.keep(error);
+        }
+    }
+
+    fn keep(&mut self, error: io::Error) {
+        if self.outcome.is_ok() {
+            self.outcome = Err(error);
+        }
+    }
+
+    // The first error, where there was one.
+    pub fn outcome(self) -> io::Result<()> {
+        self.outcome
+    }
+}
