@@ -6,6 +6,7 @@ use mathlib.Core.List.{List}
 use Prim.Native.Nat.{ℕ}
 use lib.ListN.{length}
 use contract.Lifetimes.{Lfts}
+use denote.Ref.{Bor, MutBor}
 use Rattle.common.proofs.Cases.{determined}
 use Rattle.activity.specs.declared.Activity.{Activity}
 use Rattle.registers.specs.declared.Lines.{Lines}
@@ -223,7 +224,7 @@ script_calls κs = (equation _, equation _, equation _, equation _, equation _, 
 -- ---- the calls that are lent a row: their input is what it holds, wherever it stands
 
 module _ (κs : Lfts 1) (m : Machine) (l : Lines) where
-  pub byte_time_call : (row row' : _) (r r' : Passed) (e e' : _)
+  pub byte_time_call : (row row' : MutBor (List ℕ)) (r r' : Passed) (e e' : Machine × (Lines × (MutBor (List ℕ) × Unit {0})))
       → row.now ≡ row'.now
       → wd.Machine.byte_time.Reads.Learnt κs (m, (l, (row, tt))) r e
       → wd.Machine.byte_time.Reads.Learnt κs (m, (l, (row', tt))) r' e'
@@ -233,7 +234,7 @@ module _ (κs : Lfts 1) (m : Machine) (l : Lines) where
     p.1 ∙ ap (byte_time_row m l) same ∙ sym q.1,
   )
 
-  pub run_call : (limit : ℕ) (row row' : _) (r r' : Ran) (e e' : _)
+  pub run_call : (limit : ℕ) (row row' : MutBor (List ℕ)) (r r' : Ran) (e e' : Machine × (Lines × (ℕ × (MutBor (List ℕ) × Unit {0}))))
       → row.now ≡ row'.now
       → wd.Machine.run.Reads.Learnt κs (m, (l, (limit, (row, tt)))) r e
       → wd.Machine.run.Reads.Learnt κs (m, (l, (limit, (row', tt)))) r' e'
@@ -244,14 +245,14 @@ module _ (κs : Lfts 1) (m : Machine) (l : Lines) where
   )
 
 -- the row is lent for a look
-pub ahead_call : (κs : Lfts 1) (ring : Ring) (activity : Activity) (limit : ℕ) (row row' : _) (r r' : ℕ) (e e' : _)
+pub ahead_call : (κs : Lfts 1) (ring : Ring) (activity : Activity) (limit : ℕ) (row row' : Bor (List ℕ)) (r r' : ℕ) (e e' : _)
     → row.now ≡ row'.now
     → stretch.ahead.Reads.Learnt κs (ring, (activity, (limit, (row, tt)))) r e
     → stretch.ahead.Reads.Learnt κs (ring, (activity, (limit, (row', tt)))) r' e'
     → r ≡ r'
 ahead_call κs ring activity limit row row' r r' e e' same p q = p.0 ∙ ap (stretch_ahead ring activity limit) same ∙ sym q.0
 
-module _ (κs : Lfts 1) (row row' : _) (same : row.now ≡ row'.now) where
+module _ (κs : Lfts 1) (row row' : Bor (List ℕ)) (same : row.now ≡ row'.now) where
   pub cell_call : (place r r' : ℕ) (e e' : _)
       → fields.cell.Reads.Learnt κs (row, (place, tt)) r e
       → fields.cell.Reads.Learnt κs (row', (place, tt)) r' e'
@@ -270,7 +271,7 @@ module _ (κs : Lfts 1) (row row' : _) (same : row.now ≡ row'.now) where
       → r ≡ r'
   mark_behind_call mfm place r r' e e' p q = p ∙ ap (λ (row : List ℕ). mark_behind mfm row place) same ∙ sym q
 
-module _ (κs : Lfts 2) (side0 side1 side0' side1' : _) (mfm : Bool) (track sector : ℕ)
+module _ (κs : Lfts 2) (side0 side1 side0' side1' : Bor (List ℕ)) (mfm : Bool) (track sector : ℕ)
     (same0 : side0.now ≡ side0'.now) (same1 : side1.now ≡ side1'.now) where
   pub find_call : (r r' : Place) (e e' : _)
       → viewer.find.Reads.Learnt κs (side0, (side1, (mfm, (track, (sector, tt))))) r e
@@ -285,22 +286,22 @@ module _ (κs : Lfts 2) (side0 side1 side0' side1' : _) (mfm : Bool) (track sect
   number_call r r' e e' p q = p ∙ ap₂ (λ (s0 s1 : List ℕ). number_of (place_of s0 s1 mfm track sector)) same0 same1 ∙ sym q
 
 -- the part that the viewer hands back: its cells by what the sides hold, and where they stand alike, the place of it too
-module _ (κs : Lfts 1) (side0 side1 side0' side1' : _) (mfm : Bool) (track sector : ℕ)
+module _ (κs : Lfts 1) (side0 side1 side0' side1' : Bor (List ℕ)) (mfm : Bool) (track sector : ℕ)
     (same0 : side0.now ≡ side0'.now) (same1 : side1.now ≡ side1'.now) where
-  pub view_call : (r r' : _) (e e' : _)
+  pub view_call : (r r' : Bor (List ℕ)) (e e' : _)
       → viewer.view.Reads.Learnt κs (side0, (side1, (mfm, (track, (sector, tt))))) r e
       → viewer.view.Reads.Learnt κs (side0', (side1', (mfm, (track, (sector, tt))))) r' e'
-      → (r.now ≡ r'.now) × (side0.ptr ≡ side0'.ptr → side1.ptr ≡ side1'.ptr → r.ref_ptr ≡ r'.ref_ptr)
+      → (r.now ≡ r'.now) × (side0.ref_ptr ≡ side0'.ref_ptr → side1.ref_ptr ≡ side1'.ref_ptr → r.ref_ptr ≡ r'.ref_ptr)
   view_call r r' e e' p q = (
     p.0 ∙ ap₂ (λ (s0 s1 : List ℕ). part_cells (place_of s0 s1 mfm track sector) s0 s1) same0 same1 ∙ sym q.0,
     λ at0 at1.
         p.1
-        ∙ ap₂ (λ (s0 s1 : List ℕ). part_start (place_of s0 s1 mfm track sector) side0.ptr side1.ptr) same0 same1
+        ∙ ap₂ (λ (s0 s1 : List ℕ). part_start (place_of s0 s1 mfm track sector) side0.ref_ptr side1.ref_ptr) same0 same1
         ∙ ap₂ (part_start (place_of side0'.now side1'.now mfm track sector)) at0 at1
         ∙ sym q.1,
   )
 
-pub read_call : (κs : Lfts 2) (bytes room bytes' room' : _) (r r' : Answer) (e e' : _)
+pub read_call : (κs : Lfts 2) (bytes : Bor (List ℕ)) (room : MutBor (List ℕ)) (bytes' : Bor (List ℕ)) (room' : MutBor (List ℕ)) (r r' : Answer) (e e' : Bor (List ℕ) × (MutBor (List ℕ) × Unit {0}))
     → bytes.now ≡ bytes'.now
     → room.now ≡ room'.now
     → picture.read.Reads.Learnt κs (bytes, (room, tt)) r e

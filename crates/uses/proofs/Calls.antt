@@ -26,8 +26,8 @@ module _ (m : Machine) (l : Lines) where
   a_byte_time row =
       record {
         lifetimes = ([], tt);
-        lent = record { ref_ptr = (0, 0); now = row };
-        exit = (m, (l, (record { ref_ptr = (0, 0); now = byte_time_row m l row }, tt)));
+        lent = record { ref_ptr = (0, 0); ghost_name = 0; now = row };
+        exit = (m, (l, (record { ref_ptr = (0, 0); ghost_name = 0; now = byte_time_row m l row }, tt)));
         before = refl;
         told = (refl, refl);
         after = refl;
@@ -37,8 +37,8 @@ module _ (m : Machine) (l : Lines) where
   a_run limit row =
       record {
         lifetimes = ([], tt);
-        lent = record { ref_ptr = (0, 0); now = row };
-        exit = (m, (l, (limit, (record { ref_ptr = (0, 0); now = run_row m l limit row }, tt))));
+        lent = record { ref_ptr = (0, 0); ghost_name = 0; now = row };
+        exit = (m, (l, (limit, (record { ref_ptr = (0, 0); ghost_name = 0; now = run_row m l limit row }, tt))));
         before = refl;
         told = (refl, refl);
         after = refl;
@@ -52,10 +52,10 @@ a_picture bytes room =
     record {
       lifetimes = ([], ([], tt));
       lent = record { ref_ptr = (0, 0); now = bytes };
-      space = record { ref_ptr = (0, 0); now = room };
+      space = record { ref_ptr = (0, 0); ghost_name = 0; now = room };
       exit = (
         record { ref_ptr = (0, 0); now = bytes },
-        (record { ref_ptr = (0, 0); now = reader_room bytes room }, tt),
+        (record { ref_ptr = (0, 0); ghost_name = 0; now = reader_room bytes room }, tt),
       );
       bytes_before = refl;
       room_before = refl;

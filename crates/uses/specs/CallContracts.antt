@@ -2,6 +2,7 @@
 -- arguments, the answer and, where a row is lent, the row before and after. Assumes nothing.
 use Rattle.std.specs.Prelude.{◌≡◌, Bool, true, false, List, ℕ}
 use contract.Lifetimes.{Lfts}
+use denote.Ref.{Bor, MutBor}
 use Rattle.command.specs.declared.Chip.{Chip}
 use Rattle.activity.specs.declared.Activity.TheVariants.{Idle}
 use Rattle.registers.specs.declared.Lines.{Lines}
@@ -47,16 +48,16 @@ pub record ReadCall (m : Machine) (l : Lines) (number : ℕ) (r : Read) : Type 0
 
 pub record ByteTimeCall (m : Machine) (l : Lines) (row : List ℕ) (r : Passed) (row' : List ℕ) : Type 0 where
   pub lifetimes : Lfts 1
-  pub lent : _
-  pub exit : _
+  pub lent : MutBor (List ℕ)
+  pub exit : Machine × (Lines × (MutBor (List ℕ) × Unit {0}))
   pub before : lent.now ≡ row
   pub told : wd.Machine.byte_time.Reads.Learnt lifetimes (m, (l, (lent, tt))) r exit
   pub after : exit.1.1.0.now ≡ row'
 
 pub record RunCall (m : Machine) (l : Lines) (limit : ℕ) (row : List ℕ) (r : Ran) (row' : List ℕ) : Type 0 where
   pub lifetimes : Lfts 1
-  pub lent : _
-  pub exit : _
+  pub lent : MutBor (List ℕ)
+  pub exit : Machine × (Lines × (ℕ × (MutBor (List ℕ) × Unit {0})))
   pub before : lent.now ≡ row
   pub told : wd.Machine.run.Reads.Learnt lifetimes (m, (l, (limit, (lent, tt)))) r exit
   pub after : exit.1.1.1.0.now ≡ row'
@@ -64,9 +65,9 @@ pub record RunCall (m : Machine) (l : Lines) (limit : ℕ) (row : List ℕ) (r :
 -- the picture reader, lent the picture's bytes and room for its cells
 pub record PictureCall (bytes room : List ℕ) (r : Answer) (room' : List ℕ) : Type 0 where
   pub lifetimes : Lfts 2
-  pub lent : _
-  pub space : _
-  pub exit : _
+  pub lent : Bor (List ℕ)
+  pub space : MutBor (List ℕ)
+  pub exit : Bor (List ℕ) × (MutBor (List ℕ) × Unit {0})
   pub bytes_before : lent.now ≡ bytes
   pub room_before : space.now ≡ room
   pub told : picture.read.Reads.Learnt lifetimes (lent, (space, tt)) r exit
@@ -75,22 +76,22 @@ pub record PictureCall (bytes room : List ℕ) (r : Answer) (room' : List ℕ) :
 -- the viewer, lent two sides, of which side 0 starts at p0 in memory: the part that it hands back, and where that starts
 pub record ViewCall (s0 s1 : List ℕ) (p0 : ℕ × ℕ) (mfm : Bool) (track sector : ℕ) (part : List ℕ) (start : ℕ × ℕ) : Type 0 where
   pub lifetimes : Lfts 1
-  pub side0 : _
-  pub side1 : _
-  pub answer : _
+  pub side0 : Bor (List ℕ)
+  pub side1 : Bor (List ℕ)
+  pub answer : Bor (List ℕ)
   pub exit : _
   pub cells0 : side0.now ≡ s0
   pub cells1 : side1.now ≡ s1
-  pub start0 : side0.ptr ≡ p0
+  pub start0 : side0.ref_ptr ≡ p0
   pub told : viewer.view.Reads.Learnt lifetimes (side0, (side1, (mfm, (track, (sector, tt))))) answer exit
   pub cells : answer.now ≡ part
-  pub begins : answer.ptr ≡ start
+  pub begins : answer.ref_ptr ≡ start
 
 -- and its number
 pub record NumberCall (s0 s1 : List ℕ) (mfm : Bool) (track sector number : ℕ) : Type 0 where
   pub lifetimes : Lfts 2
-  pub side0 : _
-  pub side1 : _
+  pub side0 : Bor (List ℕ)
+  pub side1 : Bor (List ℕ)
   pub exit : _
   pub cells0 : side0.now ≡ s0
   pub cells1 : side1.now ≡ s1
