@@ -51,11 +51,11 @@ module _ (s0 s1 : List ℕ) (p0 : ℕ × ℕ) (mfm : Bool) (track sector : ℕ) 
       ∙ shown.told.0
       ∙ (λ i. part_cells (place_of (shown.cells0 i) (shown.cells1 i) mfm track sector) (shown.cells0 i) (shown.cells1 i))
 
-  start_is : start ≡ part_start (place_of s0 s1 mfm track sector) p0 shown.side1.ptr
+  start_is : start ≡ part_start (place_of s0 s1 mfm track sector) p0 shown.side1.ref_ptr
   start_is =
       sym shown.begins
       ∙ shown.told.1
-      ∙ (λ i. part_start (place_of (shown.cells0 i) (shown.cells1 i) mfm track sector) (shown.start0 i) shown.side1.ptr)
+      ∙ (λ i. part_start (place_of (shown.cells0 i) (shown.cells1 i) mfm track sector) (shown.start0 i) shown.side1.ref_ptr)
 
   number_is : number ≡ number_of (place_of s0 s1 mfm track sector)
   number_is =
@@ -65,7 +65,7 @@ module _ (s0 s1 : List ℕ) (p0 : ℕ × ℕ) (mfm : Bool) (track sector : ℕ) 
   view_called =
       subst (λ (q : ℕ × List ℕ × (ℕ × ℕ)). SafeView s0 s1 p0 mfm track sector q.0 q.1 q.2)
       (λ i. (sym number_is i, sym part_is i, sym start_is i))
-      (view_safe s0 s1 p0 shown.side1.ptr mfm track sector)
+      (view_safe s0 s1 p0 shown.side1.ref_ptr mfm track sector)
 
 -- "Safe on every input"
 pub demand_1 : Demand1
