@@ -84,7 +84,7 @@ pub fn put_picture(out: &mut [u8], bytes: &[u8], room: &mut [u16]) -> Printed
     ensures put { Put out.old 0 (picture_text bytes.now room.old)
         out.new result.at }
     ensures room_after { room.new ≡ reader_room bytes.now room.old }
-    ensures at_le_listing_room { (result.at ≤ listing_room) × (result.taken ≤ length bytes.now) }
+    ensures at_bound { (result.at ≤ listing_room) × (result.taken ≤ length bytes.now) }
 {
     let answer = picture::read(bytes, room);
     if answer.number != 0 {

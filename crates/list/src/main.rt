@@ -49,7 +49,7 @@ fn step(streams: &mut Streams, run: Run, bytes: &mut [u8], room: &mut [u16], out
     requires listing_room_bound { run.written + listing_room < 2 ^ 64 }
     ensures stepped { Stepped run bytes.old room.old out.old result
         bytes.new room.new out.new }
-    ensures held_in_bounds_2 { (result.held ≤ length bytes.new) × (result.written ≤ run.written + listing_room) }
+    ensures held_bound { (result.held ≤ length bytes.new) × (result.written ≤ run.written + listing_room) }
 {
     let held = input::fill(streams, bytes, run.held);
     if (held == 0) & run.listed {

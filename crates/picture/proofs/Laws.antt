@@ -15,7 +15,7 @@ use Rattle.picture.specs.declared.Named.TheVariants.{Known, Unknown}
 use Rattle.picture.specs.declared.Verdict.{Verdict}
 use Rattle.picture.specs.declared.Verdict.TheVariants.{Sound, Refused}
 use Rattle.picture.specs.Kinds.{kind_of, shape_of, length_of}
-use Rattle.picture.specs.Layout.{cell_place, body_length, flag_in, cell_from, picture_cell}
+use Rattle.picture.specs.Layout.{cell_place, flag_in, cell_from, picture_cell}
 use Rattle.picture.specs.Reader.{verdict_of, room_with_picture, taken_from, refused_by, answer_of, filled_of, reader_answer, reader_room}
 use Rattle.picture.proofs.Verdicts.{sound_whole, done_sound}
 

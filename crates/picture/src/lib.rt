@@ -86,7 +86,7 @@ impl Kind {
     #[tactic(auto, unfolding(crate::specs::Kinds::shape_of))]
     pub fn shape(self) -> Shape
         ensures value { result ≡ shape_of self }
-        ensures shortest_row_le_length { (shortest_row ≤ result.length) × (result.length ≤ longest_row) }
+        ensures length_bound { (shortest_row ≤ result.length) × (result.length ≤ longest_row) }
     {
         match self {
             Kind::Fm => shaped(b'F', false, 3125),

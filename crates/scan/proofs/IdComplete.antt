@@ -8,7 +8,7 @@ use borrow.Author.Tests.{lt-ltb, le-ltb, ne_eqb}
 use Rattle.scan.specs.declared.Passed.{Passed}
 use Rattle.scan.specs.declared.Id.{Id}
 use Rattle.scan.specs.declared.Part.{Part}
-use Rattle.scan.specs.declared.Scan.TheVariants.{Gap, Field}
+use Rattle.scan.specs.declared.Scan.TheVariants.{Field}
 use Rattle.scan.specs.declared.Heard.TheVariants.{Whole}
 use Rattle.scan.specs.Marks.{byte_of, lead_of, carries_mark, mark_step}
 use Rattle.scan.specs.Ids.{id_begun, id_byte_step, run_in, id_cell_step, id_mark_step, id_step}

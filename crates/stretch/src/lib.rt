@@ -35,7 +35,7 @@ fn shorter(left: u16, passed: u16) -> u16
 #[tactic(auto, unfolding(crate::specs::Stretches::wait_reach))]
 fn wait_reach(limit: u16, left: u16) -> Reach
     ensures value { result ≡ wait_reach limit left }
-    ensures most_le_limit { result.most ≤ limit }
+    ensures most_bound { result.most ≤ limit }
 {
     Reach {
         most: least(left, limit),
@@ -56,7 +56,7 @@ fn empty_gap(scan: Scan) -> bool
 #[tactic(auto, unfolding(crate::specs::Stretches::search_reach))]
 fn search_reach(limit: u16, pulses: u8, scan: Scan) -> Reach
     ensures value { result ≡ search_reach limit pulses scan }
-    ensures most_le_limit { result.most ≤ limit }
+    ensures most_bound { result.most ≤ limit }
 {
     if (pulses < 5) & empty_gap(scan) {
         Reach {
@@ -72,7 +72,7 @@ fn search_reach(limit: u16, pulses: u8, scan: Scan) -> Reach
 #[tactic(auto, unfolding(crate::specs::Stretches::reach_of))]
 fn reaches(limit: u16, activity: Activity) -> Reach
     ensures value { result ≡ reach_of limit activity }
-    ensures most_le_limit { result.most ≤ limit }
+    ensures most_bound { result.most ≤ limit }
 {
     match activity {
         Activity::Idle => Reach {

@@ -188,8 +188,8 @@ module _ (mfm : Bool) (side : List ℕ) (track sector a from to : ℕ) (s : Sect
   part_size = simp (length-take, length-drop) (omega (arith, s.ends, s.inside))
 
   -- and they are the side's, as they are
-  pub part_cells : (i : ℕ) → i < size_of (id_from mfm (cells_of side) a).length
+  pub part_cells_lem : (i : ℕ) → i < size_of (id_from mfm (cells_of side) a).length
       → get_or (part_of side from to) i 0 ≡ get_or side (from + i) 0
-  part_cells i h =
+  part_cells_lem i h =
       let l : i < to - from = omega (arith, s.ends) in
       rw (get_or-take, get_or-drop)

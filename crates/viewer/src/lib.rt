@@ -162,8 +162,8 @@ pub fn find(side0: &[u16], side1: &[u16], mfm: bool, track: u8, sector: u8) -> P
 // The sector's data cells as they stand there; an empty part of side 0 where the viewer refuses.
 #[tactic(auto, unfolding(crate::specs::Views::part_cells, crate::specs::Views::part_start))]
 pub fn view<'a>(side0: &'a [u16], side1: &'a [u16], mfm: bool, track: u8, sector: u8) -> &'a [u16]
-    ensures result_value { result.now ≡ part_cells (place_of side0.now side1.now mfm track sector) side0.now side1.now }
-    ensures ref_ptr_value { result.ref_ptr ≡ part_start (place_of side0.now side1.now mfm track sector) side0.entry.ref_ptr side1.entry.ref_ptr }
+    ensures cells { result.now ≡ part_cells (place_of side0.now side1.now mfm track sector) side0.now side1.now }
+    ensures start { result.ref_ptr ≡ part_start (place_of side0.now side1.now mfm track sector) side0.entry.ref_ptr side1.entry.ref_ptr }
 {
     match find(side0, side1, mfm, track, sector) {
         Place::Zero { from, to } => {

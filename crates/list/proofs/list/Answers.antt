@@ -11,5 +11,5 @@ loop-left-preserved c =
     let stepped = c.step-run.ensures in (
       search rules,
       one_more _ _ _ c.loop-left.invariant.1 _ c.loop-left-test.true c.if-run.false stepped.stepped
-          stepped.held_in_bounds_2.1,
+          stepped.held_bound.1,
     )

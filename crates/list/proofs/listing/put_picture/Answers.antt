@@ -14,8 +14,8 @@ returns-then-answer-ne0-clause-put c =
     let read = c.read-answer.ensures in
     (refusal _ _ _ _ _ _ read.value (ne_eqb _ _ c.if-answer-ne0.true) c.put_refused-at.ensures.put).1
 
-pub returns-then-answer-ne0-clause-at_le_listing_room : goal.returns-then-answer-ne0-clause-at_le_listing_room
-returns-then-answer-ne0-clause-at_le_listing_room c =
+pub returns-then-answer-ne0-clause-at_bound : goal.returns-then-answer-ne0-clause-at_bound
+returns-then-answer-ne0-clause-at_bound c =
     (omega (arith, c.put_refused-at.ensures.upper_bound), rw c.read-answer.ensures.value (taken_within _ [] _))
 
 pub returns-clause-value : goal.returns-clause-value
@@ -30,5 +30,5 @@ returns-clause-put c =
     let put = rw (read.room_after, c.shape-shape.ensures.value) at c.put_listing-at.ensures.put in
     (listing _ _ _ _ _ _ read.value (eq-eqb _ _ c.if-answer-ne0.false) put).1
 
-pub returns-clause-at_le_listing_room : goal.returns-clause-at_le_listing_room
-returns-clause-at_le_listing_room c = (c.put_listing-at.ensures.upper_bound, rw c.read-answer.ensures.value (taken_within _ [] _))
+pub returns-clause-at_bound : goal.returns-clause-at_bound
+returns-clause-at_bound c = (c.put_listing-at.ensures.upper_bound, rw c.read-answer.ensures.value (taken_within _ [] _))
