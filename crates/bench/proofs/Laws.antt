@@ -1,5 +1,5 @@
 -- The cells of a part of a row fit a row's room. Assumes nothing.
-use Rattle.std.proofs.Common.{◌≡◌, ℕ, ◌-◌, ◌≤◌, List, length, arith, length-drop, length-take}
+use Rattle.std.proofs.Common.{◌≡◌, ℕ, ◌≤◌, List, length, arith, length-drop, length-take}
 use Rattle.scan.specs.Rows.{longest_row}
 use Rattle.viewer.specs.declared.Place.{Place}
 use Rattle.viewer.specs.declared.Place.TheVariants.{Zero, One, Refused}

@@ -32,6 +32,7 @@ pub struct State {
 }
 
 // The state of a machine under its drive lines. What the read of the status would change is dropped.
+#[tactic(auto, unfolding(crate::specs::States::state_of))]
 fn state_of(machine: Machine, lines: Lines) -> State
     ensures { result ≡ state_of machine lines }
 {

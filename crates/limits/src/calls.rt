@@ -8,6 +8,7 @@ use registers::{Lines, Ring};
 use wd::Machine;
 
 // The machine of power-on, but for its ring and what it is doing. MFM, the density in which the largest counts are reached.
+#[tactic(auto, unfolding(crate::specs::Calls::machine_with))]
 pub fn machine(ring: Ring, activity: Activity) -> Machine
     ensures { result ≡ machine_with ring activity }
 {
@@ -36,6 +37,7 @@ pub fn machine(ring: Ring, activity: Activity) -> Machine
 }
 
 // What load, read, byte time and run give: the load and the read are of DR, which no other refusal guards.
+#[tactic(auto, unfolding(crate::specs::Calls::numbers_of))]
 pub fn numbers(machine: Machine, row: &mut [u16]) -> [u8; 4]
     ensures { result ≡ numbers_of machine row.old }
 {
