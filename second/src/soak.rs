@@ -10,8 +10,8 @@ use crate::compare::{self, Case};
 use crate::generate;
 use crate::script;
 
-/// Byte times that one script is made for. Starting a program takes long where it runs under an
-/// emulator, so there are few scripts; but one that differs should still be short enough to read.
+/// Byte times that one script is made for. Starting a program takes longer than a line does, so
+/// there are few scripts; but one that differs should still be short enough to read.
 const BYTE_TIMES_A_SCRIPT: u64 = 200_000;
 /// Where a script that shows a difference is kept, seen from where the soak was started.
 const KEPT_IN: &str = "target";

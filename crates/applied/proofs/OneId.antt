@@ -7,7 +7,6 @@ use mathlib.Core.Logic.{◌⊎◌, inl, inr}
 use Prim.Native.Nat.{ℕ, ◌+◌, ◌<◌}
 use native.Mathlib.Decide.{dec_lt}
 use native.Mathlib.Omega.{arith}
-use lib.ListN.{length}
 use Rattle.common.specs.Bits.{bit_of}
 use Rattle.common.proofs.Cases.{never}
 use Rattle.crc.specs.Crc.{crc_bit, crc_bits, crc_byte}

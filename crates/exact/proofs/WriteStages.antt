@@ -27,7 +27,7 @@ use Rattle.effects.proofs.Apart.{flags_after}
 use Rattle.wd.proofs.Valid.{Held}
 use Rattle.reachable.specs.ByteTimes.{turns_on}
 use Rattle.reachable.proofs.Counts.{turns_position}
-use Rattle.hosts.specs.Hosts.{at, AloneUntil, EndsAt}
+use Rattle.hosts.specs.Hosts.{AloneUntil, EndsAt}
 use Rattle.hosts.specs.Bytes.{deed_at}
 use Rattle.hosts.proofs.DataFields.{sum_after}
 use Rattle.hosts.proofs.Views.{View, act_in}

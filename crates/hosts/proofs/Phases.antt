@@ -21,7 +21,7 @@ use Rattle.registers.specs.declared.Flags.{Flags}
 use Rattle.registers.specs.Rings.{ring_next}
 use Rattle.effects.proofs.Apart.{regs_after, flags_after}
 use Rattle.reachable.specs.ByteTimes.{turns_on}
-use Rattle.hosts.specs.Hosts.{at, BusyAt}
+use Rattle.hosts.specs.Hosts.{BusyAt}
 use Rattle.hosts.specs.Bytes.{deed_at}
 use Rattle.hosts.proofs.RingLaws.{turns_next}
 use Rattle.hosts.proofs.Keeps.{KeepsTargets, Keeps, nothing_keeps}

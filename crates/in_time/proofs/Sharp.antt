@@ -30,7 +30,7 @@ use Rattle.fields.specs.Rings.{cells_of}
 use Rattle.wd.specs.Machines.{fresh_machine, power_on}
 use Rattle.reachable.specs.ByteTimes.{turns_on}
 use Rattle.reachable.proofs.Samples.{sample_length}
-use Rattle.hosts.specs.Hosts.{none, EndsAt}
+use Rattle.hosts.specs.Hosts.{EndsAt}
 use Rattle.hosts.specs.Tracks.{passing}
 use Rattle.hosts.specs.Scenes.{Scene, loaded, settling}
 use Rattle.hosts.proofs.LowRows.{all_low, low_by}
