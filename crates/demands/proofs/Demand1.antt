@@ -15,8 +15,8 @@ use Rattle.safe.specs.Demand1.{SafePowerOn, SafeLoad, SafeRead, SafeByteTime, Sa
 use Rattle.safe.specs.Pictures.{SafePicture}
 use Rattle.safe.specs.Viewer.{SafeView}
 use Rattle.safe.proofs.Demand1.{power_on_safe, load_safe, read_safe, byte_time_safe, run_safe}
-use Rattle.safe.proofs.Pictures.{picture_safe}
-use Rattle.safe.proofs.Viewer.{view_safe}
+use Rattle.safe.proofs.PicturesTaken.{picture_safe}
+use Rattle.safe.proofs.Viewed.{view_safe}
 use Rattle.uses.specs.CallContracts.{ByteTimeCall, RunCall, PictureCall, ViewCall, NumberCall}
 use Rattle.uses.proofs.EveryUse.{byte_time_told, run_told}
 use Rattle.demands.specs.Demands.{Demand1}

@@ -2,4 +2,6 @@
 pub mod Refusals
 pub mod Demand1
 pub mod Pictures
+pub mod PicturesTaken
 pub mod Viewer
+pub mod Viewed

@@ -1,27 +1,25 @@
--- Demand 1 for the picture reader: each number exactly in its turn, what a refusal hands back, and what is taken of a picture.
--- Assumes nothing.
-use mathlib.Core.Path.{◌≡◌, refl, sym, ap, ◌∙◌}
-use mathlib.Core.Bool.{Bool, true, false, cond}
+-- Demand 1 for the picture reader: of a picture of a known kind each number is given exactly in its turn. Assumes nothing.
+use mathlib.Core.Path.{◌≡◌, refl, sym, ◌∙◌}
+use mathlib.Core.Bool.{Bool, true, false}
 use mathlib.Core.List.{List}
 use mathlib.Core.Logic.{◌⊎◌, inl, inr, ⊎_elim}
 use Prim.Native.Nat.{ℕ, zero, suc, ◌+◌, ◌-◌, ◌*◌, ◌/◌, ◌%◌, ◌^◌, ◌≤◌, ◌<◌}
 use native.Mathlib.Nat.{eq-or-lt_of_le}
 use native.Mathlib.Omega.{arith}
-use lib.Dec.{leb, ltb, eqb}
+use lib.Dec.{leb, ltb}
 use lib.ListN.{length, get_or}
 use borrow.Author.Tests.{leb-true, leb-false, ltb-true, ltb-false, eqb-true, eqb-false}
 use Rattle.common.proofs.Cases.{by_cond, never, both, all}
 use Rattle.common.specs.Bits.{bit_of}
 use Rattle.picture.specs.declared.Answer.{Answer}
 use Rattle.picture.specs.declared.Kind.{Kind}
-use Rattle.picture.specs.declared.Kind.TheVariants.{Fm, Mfm, EightInchFm, EightInchMfm}
 use Rattle.picture.specs.Kinds.{kind_of, shape_of, length_of}
-use Rattle.picture.specs.Layout.{flag_bytes, body_length, cell_place, flag_in, cell_from, picture_cell, padding_clear}
-use Rattle.picture.specs.Reader.{sound_of, judged_for, judged_of, verdict_of, refused_by, taken_from, answer_of, reader_answer, reader_room}
+use Rattle.picture.specs.Layout.{flag_bytes, body_length, flag_in, padding_clear}
+use Rattle.picture.specs.Reader.{sound_of, judged_for, refused_by, taken_from, answer_of}
 use Rattle.picture.proofs.Padding.{spare_clear_lem, clear_spare}
-use Rattle.picture.proofs.Laws.{kind_for, room_length, answer_taken, room_within, room_beyond, refused_leaves}
+use Rattle.picture.proofs.Laws.{kind_for}
 use Rattle.safe.specs.Demand1.{InTurn}
-use Rattle.safe.specs.Pictures.{Form, flags_last, IsKind, fm, mfm, eight_inch_fm, eight_inch_mfm, kind_byte, side_byte, flag_bit, cell_of_picture, PaddingSet, reader_order, Empty, NoKind, EndsEarly, NoRoom, Unsound, AtReader, empty, no_kind, ends_early, no_room, unsound, TakenPicture, SafePicture}
+use Rattle.safe.specs.Pictures.{Form, flags_last, IsKind, fm, mfm, eight_inch_fm, eight_inch_mfm, kind_byte, side_byte, flag_bit, PaddingSet, reader_order, Empty, NoKind, EndsEarly, NoRoom, Unsound, AtReader, empty, no_kind, ends_early, no_room, unsound}
 use Rattle.safe.proofs.Refusals.{first_turn, nothing}
 
 -- ---- padding
@@ -47,16 +45,16 @@ module _ (bit : ℕ → Bool) (from : ℕ) where
           ⊎_elim (λ (at : i ≡ from + n). rw at e) (λ (below : i < from + n). none i low below)
           (eq-or-lt_of_le (omega arith)))
 
-flag_clear : (last i : ℕ) → bit_of last (7 - i % 8) ≡ false → flag_in last i ≡ 0
+pub flag_clear : (last i : ℕ) → bit_of last (7 - i % 8) ≡ false → flag_in last i ≡ 0
 unfolding bit_of flag_in
 flag_clear last i e = let h : last / 2 ^ (7 - i % 8) % 2 ≡ 1 → ⊥ = eqb-false _ _ e in omega arith
 
-flag_set : (last i : ℕ) → bit_of last (7 - i % 8) ≡ true → flag_in last i ≡ 1
+pub flag_set : (last i : ℕ) → bit_of last (7 - i % 8) ≡ true → flag_in last i ≡ 1
 unfolding bit_of flag_in
 flag_set last i e = eqb-true _ _ e
 
 -- what the definitions say of a kind
-abbrev form_of : Kind → Form
+abbrev pub form_of : Kind → Form
 form_of k = flags_last (shape_of k).letter (shape_of k).mfm (length_of k) (body_length k)
 
 module _ (bytes : List ℕ) (k : Kind) where
@@ -110,17 +108,17 @@ same_kind is is' = kind_form is ∙ sym (kind_form is')
 
 module _ (bytes : List ℕ) (room : ℕ) where
   -- an answer's number is given in its turn, and where it is 0 its kind is that of the first byte
-  abbrev Told : Answer → Type 0
+  abbrev pub Told : Answer → Type 0
   Told r =
       InTurn reader_order (AtReader bytes room) r.number × (r.number ≡ 0 → IsKind (kind_byte bytes) (form_of r.kind))
 
-  turn : (t : ℕ) → 0 < reader_order t → AtReader bytes room t → ((s : ℕ) → AtReader bytes room s → t ≤ s)
+  pub turn : (t : ℕ) → 0 < reader_order t → AtReader bytes room t → ((s : ℕ) → AtReader bytes room s → t ≤ s)
       → Told (refused_by (reader_order t))
   unfolding refused_by
   turn t some at first =
       (first_turn reader_order (AtReader bytes room) t some at first, λ none. absurd (omega (arith, some, none)))
 
-  reader_rows : (P : ℕ → Type 0)
+  pub reader_rows : (P : ℕ → Type 0)
       → (Empty bytes → P 0)
       → (NoKind bytes → P 1)
       → ((form : Form) → IsKind (kind_byte bytes) form → EndsEarly bytes form → P 2)
@@ -164,7 +162,7 @@ module _ (bytes : List ℕ) (room : ℕ) where
         by true f false g = inr (padding_set bytes k g)
         by true f true g = let h = all f g in never (cc)
 
-    kind_given : Told (answer_of bytes (judged_for bytes room k))
+    pub kind_given : Told (answer_of bytes (judged_for bytes room k))
     unfolding answer_of judged_for refused_by taken_from
     kind_given =
         by_cond (λ v. Told (answer_of bytes v)) (leb (length bytes) (body_length k))
@@ -190,82 +188,3 @@ module _ (bytes : List ℕ) (room : ℕ) where
         (reader_rows (λ t. 4 ≤ t) (λ h. absurd (some h)) (λ h. absurd (known h))
         (λ form j h. absurd (long there form j h)) (λ form j h. absurd (wide fits form j h))
         (λ form j h. omega arith)))))
-
-  reader_given : Told (reader_answer bytes room)
-  unfolding reader_answer answer_of verdict_of judged_of kind_of shape_of body_length
-  reader_given =
-      by_cond (λ v. Told (answer_of bytes v)) (eqb (length bytes) 0)
-      (λ e. turn 0 (omega arith) (empty (eqb-true _ _ e)) (λ t asked. omega arith))
-      (λ e.
-      let some = eqb-false (length bytes) 0 e in
-      by_cond (λ n. Told (answer_of bytes (judged_of bytes room n))) (eqb (kind_byte bytes) 0x46)
-      (λ f. kind_given Fm (fm (eqb-true _ _ f)) some)
-      (λ f.
-      by_cond (λ n. Told (answer_of bytes (judged_of bytes room n))) (eqb (kind_byte bytes) 0x4D)
-      (λ g. kind_given Mfm (mfm (eqb-true _ _ g)) some)
-      (λ g.
-      by_cond (λ n. Told (answer_of bytes (judged_of bytes room n))) (eqb (kind_byte bytes) 0x66)
-      (λ h. kind_given EightInchFm (eight_inch_fm (eqb-true _ _ h)) some)
-      (λ h.
-      by_cond (λ n. Told (answer_of bytes (judged_of bytes room n))) (eqb (kind_byte bytes) 0x6D)
-      (λ i. kind_given EightInchMfm (eight_inch_mfm (eqb-true _ _ i)) some)
-      (λ i.
-      turn 1 (omega arith)
-      (no_kind (none (eqb-false _ _ f) (eqb-false _ _ g) (eqb-false _ _ h) (eqb-false _ _ i)))
-      (reader_rows (λ t. 1 ≤ t) (λ h. absurd (some h)) (λ h. omega arith) (λ form j h. omega arith)
-      (λ form j h. omega arith) (λ form j h. omega arith)))))))
-    where
-      none : (kind_byte bytes ≡ 0x46 → ⊥) → (kind_byte bytes ≡ 0x4D → ⊥)
-          → (kind_byte bytes ≡ 0x66 → ⊥) → (kind_byte bytes ≡ 0x6D → ⊥) → NoKind bytes
-      none f g h i form (fm e) = f e
-      none f g h i form (mfm e) = g e
-      none f g h i form (eight_inch_fm e) = h e
-      none f g h i form (eight_inch_mfm e) = i e
-
--- ---- what is taken
-
--- a cell of a picture, by its byte and its flag bit
-cell_there : (bytes : List ℕ) (k : Kind) (i : ℕ) → picture_cell k bytes i ≡ cell_of_picture bytes (form_of k) i
-unfolding picture_cell cell_place cell_from
-cell_there bytes k i = by (flag_bit bytes (form_of k) i) refl
-  where
-    flags : ℕ
-    flags = get_or bytes (3 + length_of k + i / 8) 0
-
-    by : (b : Bool) → flag_bit bytes (form_of k) i ≡ b
-        → get_or bytes (3 + i) 0 + flag_in flags i * 256 ≡ get_or bytes (3 + i) 0 + cond b 256 0
-    by true e = rw (flag_set flags i e) refl
-    by false e = rw (flag_clear flags i e) refl
-
-picture_taken : (bytes room : List ℕ)
-    → (reader_answer bytes (length room)).number ≡ 0
-    → TakenPicture bytes room (reader_answer bytes (length room)) (reader_room bytes room)
-unfolding taken_from
-picture_taken bytes room done =
-    let answer = answer_taken bytes room done in
-    record {
-      form = form_of (reader_answer bytes (length room)).kind;
-      kind = (reader_given bytes (length room)).1 done;
-      letter = refl;
-      density = refl;
-      length_of_track = refl;
-      track = ap (λ a. a.track) answer;
-      side = ap (λ a. a.side) answer;
-      taken = ap (λ a. a.taken) answer ∙ omega arith;
-      cells = λ i d within. room_within bytes room done i d within ∙ cell_there bytes _ i;
-      beyond = room_beyond bytes room done;
-      size = room_length bytes room;
-    }
-
--- for every input
-pub picture_safe : (bytes room : List ℕ) → SafePicture bytes room (reader_answer bytes (length room)) (reader_room bytes room)
-unfolding refused_by
-picture_safe bytes room =
-    record {
-      given = (reader_given bytes (length room)).0;
-      refused =
-          λ h.
-          let left = refused_leaves bytes room h in
-          (ap (λ a. a.track) left.1, ap (λ a. a.side) left.1, left.0);
-      done = picture_taken bytes room;
-    }

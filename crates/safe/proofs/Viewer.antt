@@ -1,10 +1,9 @@
--- Demand 1 for the viewer: each number exactly when, lowest first, and what a refusal hands back. Assumes nothing.
-use mathlib.Core.Path.{◌≡◌, refl, sym, ap, subst}
+-- Demand 1 for the viewer: each number exactly when, lowest first. Assumes nothing.
+use mathlib.Core.Path.{◌≡◌, refl, sym, subst}
 use mathlib.Core.Bool.{Bool, true, false, ◌&&◌}
 use mathlib.Core.List.{List, [], ◌∷◌}
 use mathlib.Core.Logic.{◌⊎◌, inl, inr, ⊎_elim}
 use Prim.Native.Nat.{ℕ, suc, ◌≤◌}
-use native.Mathlib.Nat.{zero-add}
 use native.Mathlib.Omega.{arith}
 use lib.Dec.{leb}
 use lib.ListN.{length}
@@ -13,10 +12,10 @@ use Rattle.common.proofs.Cases.{never, both}
 use Rattle.scan.specs.Rows.{length_within}
 use Rattle.viewer.specs.declared.Place.{Place}
 use Rattle.viewer.specs.declared.Place.TheVariants.{Zero, One, Refused}
-use Rattle.viewer.specs.Views.{cells_within, place_of, part_cells, part_start, number_of}
+use Rattle.viewer.specs.Views.{cells_within, place_of, number_of}
 use Rattle.viewer.proofs.Views.{Open, Case, wrong_length, wrong_cell, in_zero, in_one, nowhere, which, on_zero, on_one, on_none, lengths_refused, cells_refused, cells_within_lem}
 use Rattle.safe.specs.Demand1.{Given}
-use Rattle.safe.specs.Viewer.{WrongLength, HasAbove, AnyAbove, NoSuchSector, AtViewer, viewer_1, viewer_4, viewer_11, SafeView}
+use Rattle.safe.specs.Viewer.{WrongLength, HasAbove, AnyAbove, NoSuchSector, AtViewer, viewer_1, viewer_4, viewer_11}
 use Rattle.safe.proofs.Refusals.{lowest, nothing, in_range, out_of_range}
 
 -- ---- the conditions, of one side
@@ -66,7 +65,7 @@ module _ (s0 s1 : List ℕ) (mfm : Bool) (track sector : ℕ) where
   found : Open s0 s1 mfm track sector → (NoSuchSector s0 s1 mfm track sector → ⊥) → Given Row 0
   found may some = nothing Row (viewer_rows (λ j. ⊥) (in_lengths may.0) (in_cells may.1) some)
 
-  view_given : Given Row (number_of (place_of s0 s1 mfm track sector))
+  pub view_given : Given Row (number_of (place_of s0 s1 mfm track sector))
   view_given = by (which s0 s1 mfm track sector)
     where
       told : (p : Place) → place_of s0 s1 mfm track sector ≡ p → Given Row (number_of p)
@@ -94,21 +93,3 @@ module _ (s0 s1 : List ℕ) (mfm : Bool) (track sector : ℕ) where
           (viewer_11 (⊎_elim (λ (a, from, to, s). none a from to s) (λ (a, from, to, s). other a from to s)))
           (viewer_rows (λ j. 11 ≤ j) (λ c. absurd (in_lengths may.0 c)) (λ c. absurd (in_cells may.1 c))
           (λ c. omega arith)))
-
--- what a refusal hands back
-refused_part : (p : Place) (s0 s1 : List ℕ) (p0 p1 : ℕ × ℕ) → (number_of p ≡ 0 → ⊥)
-    → (part_cells p s0 s1 ≡ []) × (part_start p p0 p1 ≡ p0)
-unfolding part_cells part_start
-refused_part (Zero from to) s0 s1 p0 p1 h = absurd (h refl)
-refused_part (One from to) s0 s1 p0 p1 h = absurd (h refl)
-refused_part (Refused number) s0 s1 p0 p1 h = (refl, ap (λ (at : ℕ). (p0.0, at)) (zero-add p0.1))
-
--- for every input
-pub view_safe : (s0 s1 : List ℕ) (p0 p1 : ℕ × ℕ) (mfm : Bool) (track sector : ℕ)
-    → let place = place_of s0 s1 mfm track sector in
-    SafeView s0 s1 p0 mfm track sector (number_of place) (part_cells place s0 s1) (part_start place p0 p1)
-view_safe s0 s1 p0 p1 mfm track sector =
-    record {
-      given = view_given s0 s1 mfm track sector;
-      refused = refused_part (place_of s0 s1 mfm track sector) s0 s1 p0 p1;
-    }
