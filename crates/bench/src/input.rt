@@ -87,12 +87,13 @@ fn flush_before_read(source: Source, out: &mut Outgoing, waiting: u16) -> u16 {
     0
 }
 
-// Reads once more where nothing is left.
-fn filled(source: Source, input: &mut Incoming) -> Source {
+// Reads once more where nothing is left. Where a write has failed, nobody is there for the answer to another line: the input
+// counts as over.
+fn filled(source: Source, input: &mut Incoming, out: &Outgoing) -> Source {
     if 0 < source.left {
         return source;
     }
-    let left = input.read();
+    let left = if out.has_failed() { 0 } else { input.read() };
     Source {
         at: 0,
         left,
@@ -101,8 +102,8 @@ fn filled(source: Source, input: &mut Incoming) -> Source {
 }
 
 // Takes the next byte.
-fn take(source: Source, input: &mut Incoming) -> Taken {
-    let ready = filled(source, input);
+fn take(source: Source, input: &mut Incoming, out: &Outgoing) -> Taken {
+    let ready = filled(source, input, out);
     let at = ready.at;
     let left = ready.left;
     if left == 0 {
@@ -132,7 +133,7 @@ pub fn next_line(source: Source, input: &mut Incoming, out: &mut Outgoing, waiti
     let mut left = u64::MAX;
     while 0 < left {
         count = flush_before_read(rest, out, count);
-        let taken = take(rest, input);
+        let taken = take(rest, input, out);
         let byte = taken.byte;
         rest = taken.source;
         if byte == b'\n' {

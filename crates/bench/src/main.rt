@@ -45,7 +45,7 @@ fn work(cells: &mut Cells, input: &mut Incoming, out: &mut Outgoing) -> Ended {
                 failed: number,
             };
         }
-        if source.over | out.has_failed() {
+        if source.over {
             return Ended {
                 waiting: session.waiting,
                 failed: 0,

@@ -32,7 +32,7 @@ impl Outgoing {
         }
     }
 
-    // Whether a write has failed: nobody waits for more.
+    // Whether a write has failed.
     pub fn has_failed(&self) -> bool {
         self.outcome.is_err()
     }
