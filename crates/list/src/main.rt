@@ -24,7 +24,7 @@ const MOST_PICTURES: u64 = 0x1000000000000;
 const OUTPUT_ROOM: usize = 65536;
 
 // How far the run has come: so many bytes of the input are held, whether a picture was listed, whether the run is over, and how
-// many bytes were handed to std to be written.
+// many bytes were handed to the C library to be written.
 #[derive(Clone, Copy)]
 struct Run {
     held: usize,
@@ -33,7 +33,7 @@ struct Run {
     written: u64,
 }
 
-// Hands the first bytes of the output to std, and hands back how many they were.
+// Hands the first bytes of the output to the C library, and hands back how many they were.
 fn flush(streams: &mut Streams, out: &[u8], count: usize) -> usize
     requires { count ≤ length out.now }
     ensures { result ≡ count }

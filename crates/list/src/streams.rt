@@ -4,8 +4,8 @@ ghost use Rattle.std.specs.Prelude.{◌≤◌, length};
 use std::io;
 use std::io::{Read, Stdin, Stdout};
 
-// Both streams, and how the reads and writes have gone so far. The first that fails is kept for `main` to end with: what is
-// printed, and how far the run goes, is settled without it.
+// Both streams, and how the reads and writes have gone so far. The first that fails is kept for `main` to end with, and ends the
+// input, so that the run comes to its end as it does at any other input's end.
 #[derive(Drop)]
 pub struct Streams {
     stdin: Stdin,
@@ -22,10 +22,13 @@ impl Streams {
         }
     }
 
-    // Reads once, and hands back how many bytes came: none at the input's end, which a failed read counts as.
+    // Reads once, and hands back how many bytes came: none at the input's end.
     pub fn read(&mut self, buffer: &mut [u8]) -> usize
         ensures { result ≤ length buffer.new }
     {
+        if self.outcome.is_err() {
+            return 0;
+        }
         match self.stdin.read(buffer) {
             Ok(count) => count,
             Err(error) => {
