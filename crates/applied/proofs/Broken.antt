@@ -1,4 +1,4 @@
--- Request b over a track with two records, from `demand-2` alone. Assumes nothing.
+-- Request b over a track with two records, from `demand_2` alone. Assumes nothing.
 use mathlib.Core.Path.{◌≡◌, refl, sym, ap, ◌∙◌, subst}
 use mathlib.Core.Bool.{true, false}
 use mathlib.Core.Logic.{◌⊎◌, inl, inr}

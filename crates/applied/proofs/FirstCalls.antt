@@ -1,4 +1,4 @@
--- Demand 2's first sentence for the first calls after power-on, from `demand-1` and `demand-2` alone. Assumes nothing.
+-- Demand 2's first sentence for the first calls after power-on, from `demand_1` and `demand_2` alone. Assumes nothing.
 use mathlib.Core.Path.{◌≡◌, refl, sym, ap, ◌∙◌, subst}
 use mathlib.Core.Bool.{Bool, true, cond}
 use mathlib.Core.Logic.{inl, inr}

@@ -1,4 +1,4 @@
--- Demand 1 for a cell above 511 under the head, in a byte time and in a run, from `demand-1` alone. Assumes nothing.
+-- Demand 1 for a cell above 511 under the head, in a byte time and in a run, from `demand_1` alone. Assumes nothing.
 use mathlib.Core.Path.{◌≡◌, ap, ◌∙◌}
 use mathlib.Core.Bool.{Bool}
 use mathlib.Core.List.{List}

@@ -1,4 +1,4 @@
--- The accident of March again, from `march` and `demand-2` alone. Assumes nothing.
+-- The accident of March again, from `march` and `demand_2` alone. Assumes nothing.
 use mathlib.Core.Path.{◌≡◌, sym, ◌∙◌, subst}
 use mathlib.Core.Bool.{true, false, true≢false, not-eq-not}
 use mathlib.Core.Logic.{◌⊎◌, inl, inr}

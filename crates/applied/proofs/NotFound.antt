@@ -1,4 +1,4 @@
--- Demand 3 over empty tracks, from `demand-1` and `demand-3` alone. Assumes nothing.
+-- Demand 3 over empty tracks, from `demand_1` and `demand_3` alone. Assumes nothing.
 use mathlib.Core.Path.{◌≡◌, refl, sym, ap, ◌∙◌, subst}
 use mathlib.Core.Bool.{Bool, true, false, cond}
 use mathlib.Core.List.{List}

@@ -1,4 +1,4 @@
--- Request f over tracks with one record, from `demand-2` and `demand-3` alone. Assumes nothing.
+-- Request f over tracks with one record, from `demand_2` and `demand_3` alone. Assumes nothing.
 use mathlib.Core.Path.{◌≡◌, refl, sym, ap, ◌∙◌, subst}
 use mathlib.Core.Bool.{Bool, true, false, not, not-eq-not}
 use mathlib.Core.List.{List}

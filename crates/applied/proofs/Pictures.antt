@@ -1,4 +1,4 @@
--- What the picture reader says to a picture of each kind of an eight-inch disk, from `demand-1` alone. Assumes nothing.
+-- What the picture reader says to a picture of each kind of an eight-inch disk, from `demand_1` alone. Assumes nothing.
 use mathlib.Core.Path.{◌≡◌, refl, sym, ap, ◌∙◌, subst}
 use mathlib.Core.Bool.{Bool, true, false}
 use mathlib.Core.List.{List}

@@ -1,4 +1,4 @@
--- Demand 1 for one bad input of each call, from `demand-1` alone: its condition is met, and none before it. Assumes nothing.
+-- Demand 1 for one bad input of each call, from `demand_1` alone: its condition is met, and none before it. Assumes nothing.
 use mathlib.Core.Path.{◌≡◌, refl}
 use mathlib.Core.Bool.{Bool, false}
 use mathlib.Core.List.{[]}

@@ -1,4 +1,4 @@
--- Demand 2 for one sector of 128 bytes, from `demand-2` alone. Assumes nothing.
+-- Demand 2 for one sector of 128 bytes, from `demand_2` alone. Assumes nothing.
 use mathlib.Core.Path.{◌≡◌, refl, sym, ap, ◌∙◌, subst}
 use mathlib.Core.Bool.{false}
 use mathlib.Core.List.{List}

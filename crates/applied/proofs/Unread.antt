@@ -1,4 +1,4 @@
--- A host that takes no byte of the sector that it reads gets Lost Data, from `demand-2` and `march` alone. Assumes nothing.
+-- A host that takes no byte of the sector that it reads gets Lost Data, from `demand_2` and `march` alone. Assumes nothing.
 use mathlib.Core.Path.{◌≡◌, refl, sym, subst}
 use mathlib.Core.Bool.{Bool, true}
 use Prim.Native.Nat.{ℕ, ◌+◌, ◌<◌}

@@ -1,4 +1,4 @@
--- Demand 3 over tracks with one ID, from `demand-3` alone. Assumes nothing.
+-- Demand 3 over tracks with one ID, from `demand_3` alone. Assumes nothing.
 use mathlib.Core.Path.{◌≡◌, refl, sym, ap, ◌∙◌, subst}
 use mathlib.Core.Bool.{Bool, true, false, not-eq-not}
 use mathlib.Core.List.{List}

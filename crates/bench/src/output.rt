@@ -26,13 +26,7 @@ impl Outgoing {
         }
     }
 
-    fn keep(&mut self, written: io::Result<()>) {
-        if self.outcome.is_ok() {
-            self.outcome = written;
-        }
-    }
-
-    // Whether a write has failed.
+    // Whether a write has failed: nothing is written after it.
     pub fn has_failed(&self) -> bool {
         self.outcome.is_err()
     }
@@ -45,8 +39,9 @@ impl Outgoing {
 
 // The bytes that still wait go out.
 pub fn flush(out: &mut Outgoing, waiting: u16) {
-    let written = out.stdout.write_all(&out.bytes[..waiting as usize]);
-    out.keep(written);
+    if !out.has_failed() {
+        out.outcome = out.stdout.write_all(&out.bytes[..waiting as usize]);
+    }
 }
 
 pub fn put(out: &mut Outgoing, waiting: u16, byte: u8) -> u16 {
@@ -54,8 +49,9 @@ pub fn put(out: &mut Outgoing, waiting: u16, byte: u8) -> u16 {
     if waiting < 65535 {
         return waiting + 1;
     }
-    let written = out.stdout.write_all(&out.bytes);
-    out.keep(written);
+    if !out.has_failed() {
+        out.outcome = out.stdout.write_all(&out.bytes);
+    }
     0
 }
 
@@ -107,6 +103,7 @@ pub fn put_cells(out: &mut Outgoing, waiting: u16, cells: &[u16], from: usize, t
 
 // The number of a line that cannot be carried out, in decimal. Nothing waits any more.
 pub fn print_error(out: &mut Outgoing, number: u64) {
-    let written = println!(out.stdout; "error {number}");
-    out.keep(written);
+    if !out.has_failed() {
+        out.outcome = println!(out.stdout; "error {number}");
+    }
 }

@@ -1,5 +1,5 @@
 -- What was bought: the three demands and the accident of March, in the tender's words, over the contracts of the calls, as the
--- prover gives them to the caller (`uses`: `Contracts`, `Uses`, `Courses`). Assumes nothing.
+-- prover gives them to the caller (`uses`: `CallContracts`, `Uses`, `Courses`). Assumes nothing.
 use Rattle.std.specs.Prelude.{◌≡◌, Bool, true, false, List, ◌⊎◌, ◌↔◌, ℕ, suc, ◌+◌, ◌*◌, ◌≤◌, ◌<◌, length, get_or}
 use Rattle.common.specs.Bits.{bit_of}
 use Rattle.command.specs.declared.Chip.{Chip}

@@ -32,21 +32,16 @@ impl Streams {
         match self.stdin.read(buffer) {
             Ok(count) => count,
             Err(error) => {
-                self.keep(error);
+                self.outcome = Err(error);
                 0
             }
         }
     }
 
+    // Writes the text, where no read or write has failed.
     pub fn write(&mut self, text: &[u8]) {
-        if let Err(error) = self.stdout.write_all(text) {
-            self.keep(error);
-        }
-    }
-
-    fn keep(&mut self, error: io::Error) {
         if self.outcome.is_ok() {
-            self.outcome = Err(error);
+            self.outcome = self.stdout.write_all(text);
         }
     }
 

@@ -70,7 +70,7 @@ abbrev pub window_from : {s : Scene} {sector t : ℕ} → GoodMatch s sector t �
 window_from {s} m = m.cell + id_width s.machine.mfm
 
 -- The record that the search comes to: its good match, and the first data mark in the window after that. The mark stands from cell
--- `mark-at` on, and its byte is that cell of the window.
+-- `mark_at` on, and its byte is that cell of the window.
 pub record RecordFrom (s : Scene) (sector t : ℕ) : Type 0 where
   pub id : GoodMatch s sector t
   pub mark : DataMark

@@ -126,7 +126,7 @@ calls_leave m (c ∷ cs) (more quiet rest) (OnDrq.more asks other served) off =
     let later = calls_leave (called_of m c) cs rest served (here.drq ∙ off) in
     record { dr = later.dr ∙ here.dr; drq = later.drq ∙ here.drq }
 
--- the byte that is one-moved, if DRQ is on
+-- the byte that is moved, if DRQ is on
 abbrev pub one_if : Bool → ℕ → List ℕ
 one_if drq b = cond drq (b ∷ []) []
 

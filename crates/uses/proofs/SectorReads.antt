@@ -61,7 +61,7 @@ module _ (c : Accepted) (course : Course c) {multiple : Bool} (reads : SectorRea
       ap (λ (d : Desk). (at host d (took course)).machine) (sym (since_loaded c host))
       ∙ ap (λ (d : Desk). d.machine) (at_end c ReadSector is_read (λ e. never (cc)) course silent rest)
 
-  -- what a read has showed-at-end of the one is so of the other
+  -- what a read has shown at the end of the one is so of the other
   pub showed_at_end :
       (bit : ℕ) (on : Bool)
       → Showed course.after bit on
