@@ -1,7 +1,7 @@
 -- What an accepted command does at once, by its class: document 01, "Registers and commands", and document 02, i. Assumes nothing.
 use Rattle.std.specs.Prelude.{Bool, true, false, cond, not, ◌&&◌, ◌||◌, ℕ}
 use Rattle.command.specs.Bits.{loads_head, settles_first, selects_side, forces_at_once, forces_at_index, forces_at_not_ready, forces_at_ready}
-use Rattle.command.specs.Commands.{is_restore}
+use Rattle.command.specs.Commands.{is_restore, class_of}
 use Rattle.command.specs.Times.{settle_time_of}
 use Rattle.command.specs.declared.Command.{Command}
 use Rattle.command.specs.declared.Command.TheVariants.{Restore, Seek, Step, StepIn, StepOut, ReadSector, WriteSector, ReadAddress, WriteTrack, ForceInterrupt}
@@ -16,6 +16,7 @@ use Rattle.registers.specs.declared.Flags.{Flags}
 use Rattle.registers.specs.declared.Head.{Head}
 use Rattle.registers.specs.declared.Conditions.{Conditions}
 use Rattle.registers.specs.declared.Lines.{Lines}
+use Rattle.accepting.specs.declared.Acceptance.{Acceptance}
 
 unfoldable pub writes : Command → Bool
 writes Restore = false
@@ -49,6 +50,18 @@ asks_first WriteSector = false
 asks_first ReadAddress = false
 asks_first WriteTrack = true
 asks_first ForceInterrupt = false
+
+-- what the acceptance of a command knows of it
+abbrev pub accepted_by : Command → ℕ → Lines → Acceptance
+accepted_by command b l =
+    record {
+      command = command;
+      byte = b;
+      class = class_of command;
+      held = held_by command l;
+      ends = ends_at_once command l;
+      asks = asks_first command && not (ends_at_once command l);
+    }
 
 -- "Restore sets TR 255, DR 0 at acceptance"
 unfoldable pub begin_regs : Regs → Command → Regs

@@ -2,74 +2,32 @@
 #![tactic(auto)]
 
 ghost use Rattle.std.specs.Prelude.{◌≡◌};
-ghost use Rattle.accepting.specs.Accepting.{writes, held_by, asks_first, begin_regs, begin_wires, forced_flags, begin_flags, begin_head, conditions_for, works_from, begin_activity, begin_side};
+ghost use Rattle.accepting.specs.Accepting.{held_by, accepted_by, begin_regs, begin_wires, forced_flags, begin_flags, begin_head, conditions_for, works_from, begin_activity, begin_side};
 
 use activity::Activity;
+use command::bits::{Flag, is_on, selects_side};
 use command::{Chip, Class, Command};
 use registers::{Conditions, Flags, Head, Lines, Regs, Wires};
 
-#[tactic(auto, unfolding(crate::specs::Accepting::writes))]
-fn writes_to_disk(command: Command) -> bool
-    ensures { result ≡ writes command }
-{
-    match command {
-        Command::WriteSector | Command::WriteTrack => true,
-        _ => false,
-    }
+// A command as it is accepted, with its byte and its class; whether it is a write that protection ends at once, whether it ends
+// at once for that or another reason, and whether it asks for its first byte at once.
+#[derive(Clone, Copy)]
+pub struct Acceptance {
+    pub command: Command,
+    pub byte: u8,
+    pub class: Class,
+    pub held: bool,
+    pub ends: bool,
+    pub asks: bool,
 }
 
 // A write that protection ends at once; not ready comes first.
-#[tactic(auto, unfolding(crate::specs::Accepting::held_by))]
-pub fn held(command: Command, lines: Lines) -> bool
+#[tactic(auto, unfolding(crate::specs::Accepting::held_by, crate::specs::Accepting::writes))]
+fn held(command: Command, lines: Lines) -> bool
     ensures { result ≡ held_by command lines }
 {
-    writes_to_disk(command) & lines.protect & lines.ready
-}
-
-// Write Track asks for its first byte at acceptance.
-#[tactic(auto, unfolding(crate::specs::Accepting::asks_first))]
-pub fn asks(command: Command) -> bool
-    ensures { result ≡ asks_first command }
-{
-    match command {
-        Command::WriteTrack => true,
-        _ => false,
-    }
-}
-
-// Restore sets TR 255 and DR 0.
-#[tactic(auto, unfolding(crate::specs::Accepting::begin_regs))]
-pub fn begin_regs(regs: Regs, command: Command) -> Regs
-    ensures { result ≡ begin_regs regs command }
-{
-    if command::is_restore(command) {
-        return Regs {
-            tr: 255,
-            sr: regs.sr,
-            dr: 0,
-        };
-    }
-    regs
-}
-
-#[tactic(auto, unfolding(crate::specs::Accepting::begin_wires))]
-pub fn begin_wires(wires: Wires, asks: bool, ends: bool, byte: u8, class: Class) -> Wires
-    ensures { result ≡ begin_wires wires asks ends byte class }
-{
-    match class {
-        Class::Seeks | Class::Steps => Wires {
-            drq: false,
-            intrq: false,
-        },
-        Class::Works => Wires {
-            drq: asks,
-            intrq: ends,
-        },
-        Class::Forces => Wires {
-            drq: wires.drq,
-            intrq: command::bits::forces_at_once(byte),
-        },
-    }
+    let writes = matches!(command, Command::WriteSector | Command::WriteTrack);
+    writes & lines.protect & lines.ready
 }
 
 #[tactic(auto, unfolding(crate::specs::Accepting::forced_flags))]
@@ -79,52 +37,11 @@ fn forced_flags(flags: Flags, busy: bool) -> Flags
     if busy {
         return flags;
     }
-    let mut after = flags;
-    after.type1 = true;
-    after.missing = false;
-    after.crc = false;
-    after
-}
-
-#[tactic(auto, unfolding(crate::specs::Accepting::begin_flags))]
-pub fn begin_flags(flags: Flags, held: bool, busy: bool, class: Class) -> Flags
-    ensures { result ≡ begin_flags flags held busy class }
-{
-    match class {
-        Class::Seeks | Class::Steps => Flags {
-            type1: true,
-            protected: false,
-            deleted: false,
-            missing: false,
-            crc: false,
-            lost: false,
-        },
-        Class::Works => Flags {
-            type1: false,
-            protected: held,
-            deleted: false,
-            missing: false,
-            crc: false,
-            lost: false,
-        },
-        Class::Forces => forced_flags(flags, busy),
-    }
-}
-
-#[tactic(auto, unfolding(crate::specs::Accepting::begin_head))]
-pub fn begin_head(head: Head, ends: bool, byte: u8, class: Class) -> Head
-    ensures { result ≡ begin_head head ends byte class }
-{
-    match class {
-        Class::Seeks | Class::Steps => Head {
-            loaded: command::bits::loads_head(byte),
-            inward: head.inward,
-        },
-        Class::Works => Head {
-            loaded: head.loaded | !ends,
-            inward: head.inward,
-        },
-        Class::Forces => head,
+    Flags {
+        type1: true,
+        missing: false,
+        crc: false,
+        ..flags
     }
 }
 
@@ -135,9 +52,9 @@ pub fn conditions_for(byte: u8, class: Class) -> Conditions
 {
     match class {
         Class::Forces => Conditions {
-            on: command::bits::forces_at_ready(byte),
-            off: command::bits::forces_at_not_ready(byte),
-            index: command::bits::forces_at_index(byte),
+            on: is_on(byte, Flag::AtReady),
+            off: is_on(byte, Flag::AtNotReady),
+            index: is_on(byte, Flag::AtIndex),
         },
         Class::Seeks | Class::Steps | Class::Works => Conditions {
             on: false,
@@ -161,25 +78,111 @@ fn works_from(ends: bool, settles: bool, mfm: bool) -> Activity
     Activity::Settle(0)
 }
 
-#[tactic(auto, unfolding(crate::specs::Accepting::begin_activity))]
-pub fn begin_activity(ends: bool, mfm: bool, byte: u8, class: Class) -> Activity
-    ensures { result ≡ begin_activity ends mfm byte class }
-{
-    match class {
-        Class::Seeks => Activity::Seek(1),
-        Class::Steps => Activity::Pulse,
-        Class::Works => works_from(ends, command::bits::settles_first(byte), mfm),
-        Class::Forces => Activity::Idle,
+impl Acceptance {
+    // Types II and III look: not ready ends them at once, and next a write under protection. Write Track asks at once.
+    #[tactic(auto, unfolding(crate::specs::Accepting::asks_first))]
+    pub fn new(command: Command, byte: u8, lines: Lines) -> Acceptance
+        ensures { result ≡ accepted_by command byte lines }
+    {
+        let held = held(command, lines);
+        let ends = held | !lines.ready;
+        Acceptance {
+            command,
+            byte,
+            class: command::class_of(command),
+            held,
+            ends,
+            asks: matches!(command, Command::WriteTrack) & !ends,
+        }
     }
-}
 
-// Types II and III set the side output, also one that ends at once; the other commands leave it.
-#[tactic(auto, unfolding(crate::specs::Accepting::begin_side))]
-pub fn begin_side(sso: bool, chip: Chip, byte: u8, class: Class) -> bool
-    ensures { result ≡ begin_side sso chip byte class }
-{
-    match class {
-        Class::Works => command::bits::selects_side(chip, byte),
-        Class::Seeks | Class::Steps | Class::Forces => sso,
+    // Restore sets TR 255 and DR 0.
+    #[tactic(auto, unfolding(crate::specs::Accepting::begin_regs))]
+    pub fn regs(self, regs: Regs) -> Regs
+        ensures { result ≡ begin_regs regs self.command }
+    {
+        if command::is_restore(self.command) {
+            return Regs {
+                tr: 255,
+                dr: 0,
+                ..regs
+            };
+        }
+        regs
+    }
+
+    #[tactic(auto, unfolding(crate::specs::Accepting::begin_wires))]
+    pub fn wires(self, wires: Wires) -> Wires
+        ensures { result ≡ begin_wires wires self.asks self.ends self.byte self.class }
+    {
+        match self.class {
+            Class::Seeks | Class::Steps => Wires {
+                drq: false,
+                intrq: false,
+            },
+            Class::Works => Wires {
+                drq: self.asks,
+                intrq: self.ends,
+            },
+            Class::Forces => Wires {
+                intrq: is_on(self.byte, Flag::AtOnce),
+                ..wires
+            },
+        }
+    }
+
+    #[tactic(auto, unfolding(crate::specs::Accepting::begin_flags))]
+    pub fn flags(self, flags: Flags, busy: bool) -> Flags
+        ensures { result ≡ begin_flags flags self.held busy self.class }
+    {
+        match self.class {
+            Class::Seeks | Class::Steps => Flags::CLEAR,
+            Class::Works => Flags {
+                type1: false,
+                protected: self.held,
+                ..Flags::CLEAR
+            },
+            Class::Forces => forced_flags(flags, busy),
+        }
+    }
+
+    #[tactic(auto, unfolding(crate::specs::Accepting::begin_head))]
+    pub fn head(self, head: Head) -> Head
+        ensures { result ≡ begin_head head self.ends self.byte self.class }
+    {
+        match self.class {
+            Class::Seeks | Class::Steps => Head {
+                loaded: is_on(self.byte, Flag::Head),
+                ..head
+            },
+            Class::Works => Head {
+                loaded: head.loaded | !self.ends,
+                ..head
+            },
+            Class::Forces => head,
+        }
+    }
+
+    #[tactic(auto, unfolding(crate::specs::Accepting::begin_activity))]
+    pub fn activity(self, mfm: bool) -> Activity
+        ensures { result ≡ begin_activity self.ends mfm self.byte self.class }
+    {
+        match self.class {
+            Class::Seeks => Activity::Seek(1),
+            Class::Steps => Activity::Pulse,
+            Class::Works => works_from(self.ends, is_on(self.byte, Flag::Settle), mfm),
+            Class::Forces => Activity::Idle,
+        }
+    }
+
+    // Types II and III set the side output, also one that ends at once; the other commands leave it.
+    #[tactic(auto, unfolding(crate::specs::Accepting::begin_side))]
+    pub fn side(self, sso: bool, chip: Chip) -> bool
+        ensures { result ≡ begin_side sso chip self.byte self.class }
+    {
+        match self.class {
+            Class::Works => selects_side(chip, self.byte),
+            Class::Seeks | Class::Steps | Class::Forces => sso,
+        }
     }
 }

@@ -1,4 +1,3 @@
 -- The acts that a byte time can have, and the laws over them for the crates above.
-pub mod Arms
 pub mod Acts
 pub mod Within

@@ -5,6 +5,7 @@ ghost use Rattle.std.specs.Prelude.{◌≡◌};
 ghost use Rattle.act.specs.Turns.{format_begun, job_begun, begun_activity, settle_turn, await_turn, activity_act, act_of};
 
 use activity::{Act, Activity, Deed, Seen};
+use command::bits::{Flag, is_on, mark_written};
 use command::{Job, Order};
 use scan::Scan;
 
@@ -39,14 +40,7 @@ fn entered(o: Order, s: Seen, activity: Activity) -> Activity
     ensures { result ≡ begun_activity o s activity }
 {
     match activity {
-        Activity::Settle(left) => {
-            if (left == 0) & s.hlt {
-                let command = o.command;
-                begin(s, command::job_of(command))
-            } else {
-                activity
-            }
-        }
+        Activity::Settle(left) if (left == 0) & s.hlt => begin(s, command::job_of(o.command)),
         Activity::Await => begin_format(s),
         _ => activity,
     }
@@ -56,19 +50,7 @@ fn entered(o: Order, s: Seen, activity: Activity) -> Activity
 fn settling(s: Seen, left: u16) -> Act
     ensures { result ≡ settle_turn s left }
 {
-    if left == 0 {
-        Act {
-            next: Activity::Settle(0),
-            deed: Deed::Nothing,
-            cell: s.cell,
-        }
-    } else {
-        Act {
-            next: Activity::Settle(left - 1),
-            deed: Deed::Nothing,
-            cell: s.cell,
-        }
-    }
+    s.go_on(Activity::Settle(left.saturating_sub(1)))
 }
 
 // A pulse that has begun nothing finds a Write Track that nobody has served.
@@ -77,17 +59,9 @@ fn awaiting(s: Seen) -> Act
     ensures { result ≡ await_turn s }
 {
     if s.index {
-        Act {
-            next: Activity::Idle,
-            deed: Deed::Late,
-            cell: s.cell,
-        }
+        s.pass(Activity::Idle, Deed::Late)
     } else {
-        Act {
-            next: Activity::Await,
-            deed: Deed::Nothing,
-            cell: s.cell,
-        }
+        s.go_on(Activity::Await)
     }
 }
 
@@ -96,11 +70,7 @@ fn react(o: Order, s: Seen, activity: Activity) -> Act
     ensures { result ≡ activity_act o s activity }
 {
     match activity {
-        Activity::Idle => Act {
-            next: Activity::Idle,
-            deed: Deed::Nothing,
-            cell: s.cell,
-        },
+        Activity::Idle => s.go_on(Activity::Idle),
         Activity::Seek(left) => stepping::seek(o, s, left),
         Activity::Pulse => stepping::pulse(o, s),
         Activity::Stop(left) => stepping::stop_in(o, s, left),
@@ -109,7 +79,7 @@ fn react(o: Order, s: Seen, activity: Activity) -> Act
         Activity::Window(left, passed, run) => reading::window(s, left, passed, run),
         Activity::Data(left, crc, deleted) => reading::read(
             s,
-            command::bits::is_multiple(o.byte),
+            is_on(o.byte, Flag::Multiple),
             left,
             crc,
             deleted,
@@ -118,10 +88,9 @@ fn react(o: Order, s: Seen, activity: Activity) -> Act
         Activity::Address(passed, crc, track) => reading::address(s, passed, crc, track),
         Activity::Await => awaiting(s),
         Activity::Preamble(left, passed) => {
-            let mark = command::bits::mark_written(o.byte);
-            writing::preamble(s, scan::mark_byte(mark), left, passed)
+            writing::preamble(s, mark_written(o.byte).byte(), left, passed)
         }
-        Activity::Put(left, crc) => writing::put(s, command::bits::is_multiple(o.byte), left, crc),
+        Activity::Put(left, crc) => writing::put(s, is_on(o.byte, Flag::Multiple), left, crc),
         Activity::Format(crc) => formatting::format(s, crc),
         Activity::FormatCrc(crc) => formatting::format_crc(s, crc),
     }

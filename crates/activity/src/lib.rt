@@ -2,7 +2,8 @@
 #![tactic(auto)]
 
 ghost use Rattle.std.specs.Prelude.{◌≡◌};
-ghost use Rattle.activity.specs.Acts.{taken_of};
+ghost use Rattle.scan.specs.Marks.{byte_of};
+ghost use Rattle.activity.specs.Acts.{taken_of, pass};
 ghost use Rattle.activity.specs.Limits.{busy_in, scan_within, counts_within};
 
 use command::sizes::LARGEST_SIZE;
@@ -22,7 +23,8 @@ const LAST_OF_WINDOW: u8 = LONGEST_WINDOW - 1;
 // The mark of a written field is the 38th cell after the ID in MFM, the later density.
 const LAST_PREAMBLE: u8 = 37;
 
-// What a byte time sees: density, index pulse, the ring's last cell, lines, wires, registers and the cell that passes.
+// What a byte time sees: density, index pulse, the ring's last cell, lines, wires, registers and the cell that passes. The order
+// stands beside it and not in it, since most byte times are made from what is seen alone.
 #[derive(Clone, Copy)]
 pub struct Seen {
     pub mfm: bool,
@@ -107,12 +109,40 @@ pub struct Act {
     pub cell: u16,
 }
 
-// The byte that a written cell takes.
-#[tactic(auto, unfolding(crate::specs::Acts::taken_of))]
-pub fn taken(s: Seen) -> u8
-    ensures { result ≡ taken_of s }
-{
-    if s.drq { 0x00 } else { s.dr }
+impl Seen {
+    // The byte in the cell.
+    #[tactic(auto, unfolding(scan::specs::Marks::byte_of))]
+    pub fn byte(self) -> u8
+        ensures { result ≡ byte_of self.cell }
+    {
+        (self.cell % 256) as u8
+    }
+
+    // The byte that a written cell takes.
+    #[tactic(auto, unfolding(crate::specs::Acts::taken_of))]
+    pub fn taken(self) -> u8
+        ensures { result ≡ taken_of self }
+    {
+        if self.drq { 0x00 } else { self.dr }
+    }
+
+    // The act that leaves the cell as it is,
+    pub fn pass(self, next: Activity, deed: Deed) -> Act
+        ensures { result ≡ pass self next deed }
+    {
+        Act {
+            next,
+            deed,
+            cell: self.cell,
+        }
+    }
+
+    // and the one in which nothing happens besides.
+    pub fn go_on(self, next: Activity) -> Act
+        ensures { result ≡ pass self next Deed.Nothing }
+    {
+        self.pass(next, Deed::Nothing)
+    }
 }
 
 // A command is under way.
@@ -120,10 +150,7 @@ pub fn taken(s: Seen) -> u8
 pub fn busy(activity: Activity) -> bool
     ensures { result ≡ busy_in activity }
 {
-    match activity {
-        Activity::Idle => false,
-        _ => true,
-    }
+    !matches!(activity, Activity::Idle)
 }
 
 #[tactic(auto, unfolding(crate::specs::Limits::scan_within))]

@@ -9,6 +9,8 @@ use native.Mathlib.Nat.{mod-eq_of_lt}
 use native.Mathlib.Omega.{arith}
 use lib.ListN.{length, get_or, drop, length-drop}
 use lib.Seq.{get_or-drop}
+use Rattle.std.specs.Prelude.{Result}
+use Rattle.refusals.specs.declared.Refusal.{Refusal}
 use Rattle.scan.specs.Marks.{byte_of}
 use Rattle.scan.specs.Streams.{id_width, id_from}
 use Rattle.command.specs.Bits.{ibm_lengths}
@@ -181,10 +183,10 @@ module _ (s : Scene) (s0 s1 : List ℕ) (from to : ℕ) (viewed : Viewed s s0 s1
       by : Finds s s0 s1 from to → Sector
       by (on_side_0 e place) =
           let f = found_zero s0 s1 s.machine.mfm s.machine.regs.tr s.machine.regs.sr from to place in
-          on s0 e (ap (λ (x : Place). part_cells x s0 s1) place) f.0 f.1
+          on s0 e (ap (λ (x : Result Place Refusal). part_cells x s0 s1) place) f.0 f.1
       by (on_side_1 e place) =
           let f = found_one s0 s1 s.machine.mfm s.machine.regs.tr s.machine.regs.sr from to place in
-          on s1 e (ap (λ (x : Place). part_cells x s0 s1) place) f.0 f.1
+          on s1 e (ap (λ (x : Result Place Refusal). part_cells x s0 s1) place) f.0 f.1
 
   its_suits : Suits s (id_from s.machine.mfm (cells_of s.row) its.p)
   its_suits =

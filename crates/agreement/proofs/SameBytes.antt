@@ -11,9 +11,11 @@ use lib.Dec.{eqb}
 use lib.ListN.{get_or, replicate, get_or-replicate}
 use lib.Seq.{get_or-append-add}
 use borrow.Author.Tests.{eqb-false}
+use Rattle.std.specs.Prelude.{Result, Ok}
 use Rattle.common.proofs.Arms.{range}
 use Rattle.common.proofs.Cases.{never}
 use Rattle.crc.specs.Crc.{crc_bit, crc_bits, crc_byte, crc_over}
+use Rattle.refusals.specs.declared.Refusal.{Refusal}
 use Rattle.scan.specs.Rows.{length_within}
 use Rattle.scan.specs.Marks.{byte_of, lead_of, carries_mark, sync_run, mark_step, mark_bytes, mark_crc}
 use Rattle.scan.specs.DataMarks.{mark_byte, density_has, data_mark_of, data_mark_in, data_mark_step, window_of}
@@ -27,7 +29,7 @@ use Rattle.fields.specs.DataMarks.{met_by, sought_in, mark_behind}
 use Rattle.viewer.specs.declared.Place.{Place}
 use Rattle.viewer.specs.declared.Place.TheVariants.{Zero}
 use Rattle.viewer.specs.Views.{cells_within, view_refusal, first_place, place_of, part_cells}
-use Rattle.viewer.specs.Sectors.{register_over, span_from, span_marked, span_behind, wanted_of, span_in, or_else, span_among, span_on}
+use Rattle.viewer.specs.Sectors.{register_over, span_of, span_from, span_marked, span_behind, wanted_of, span_in, span_among, span_on}
 use Rattle.viewer.proofs.Views.{cells_within_lem}
 use Rattle.wd.specs.Machines.{fresh_machine, power_on}
 use Rattle.hosts.specs.Hosts.{EndsAt}
@@ -88,8 +90,8 @@ at_zero ring = by ring.cell ring.inside ring.stands.mark.1 (dec_lt 0 ring.cell) 
         absurd (omega (arith, e, zero, ap (λ (x : ℕ). get_or track x 0) (mod-eq_of_lt l)))
 
 -- the viewer finds the sector's data cells
-finds : place_in scene track track ≡ Zero 25 153
-unfolding place_of view_refusal first_place cells_within length_within span_on span_among or_else span_in wanted_of span_behind span_marked
+finds : place_in scene track track ≡ Ok (Zero (span_of 25 153))
+unfolding place_of view_refusal first_place cells_within length_within span_on span_among span_in wanted_of span_behind span_marked
     span_from register_over next_id heard_in found_by mark_behind sought_in met_by cells_of id_step id_mark_step id_cell_step run_in
     id_byte_step whole_of pushed_of id_begun mark_step lead_of carries_mark sync_run mark_crc mark_bytes data_mark_step data_mark_in data_mark_of density_has
     mark_byte window_of crc_over crc_byte crc_bits crc_bit size_of power_on fresh_machine
@@ -115,5 +117,5 @@ same_bytes =
     let (n, ends, same) = agree scene track track 25 153 viewed asked in (
       asked,
       viewed,
-      (n, ends, same.bytes ∙ ap (λ (x : Place). map byte_of (part_cells x track track)) finds),
+      (n, ends, same.bytes ∙ ap (λ (x : Result Place Refusal). map byte_of (part_cells x track track)) finds),
     )

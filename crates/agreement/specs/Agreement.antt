@@ -1,14 +1,15 @@
 -- The viewer and the machine agree: the premises under which a Read Sector hands over the bytes that the viewer shows, and the
 -- conclusion. Assumes nothing.
-use Rattle.std.specs.Prelude.{◌≡◌, true, false, not, List, map, ℕ, suc, ◌+◌, ◌-◌, ◌≤◌, ◌<◌, get_or}
+use Rattle.std.specs.Prelude.{◌≡◌, true, false, not, List, map, ℕ, suc, ◌+◌, ◌-◌, ◌≤◌, ◌<◌, get_or, Result, Ok, Some}
+use Rattle.refusals.specs.declared.Refusal.{Refusal}
 use Rattle.scan.specs.Marks.{byte_of}
 use Rattle.scan.specs.Streams.{id_from}
 use Rattle.command.specs.Bits.{is_multiple, ibm_lengths}
 use Rattle.command.specs.Commands.{decoded_of}
 use Rattle.command.specs.declared.Command.TheVariants.{ReadSector}
-use Rattle.command.specs.declared.Decoded.TheVariants.{Taken}
 use Rattle.viewer.specs.declared.Place.{Place}
 use Rattle.viewer.specs.declared.Place.TheVariants.{Zero, One}
+use Rattle.viewer.specs.Sectors.{span_of}
 use Rattle.viewer.specs.Views.{place_of, part_cells}
 use Rattle.viewer.specs.Plain.{FirstSector}
 use Rattle.registers.specs.declared.Lines.{Lines}
@@ -21,16 +22,17 @@ use Rattle.hosts.specs.Hosts.{at, EndsAt, Undisturbed}
 use Rattle.hosts.specs.Scenes.{Scene, loaded, SideSuits, counts_deleted}
 use Rattle.hosts.specs.Bytes.{handed, LateAt}
 use Rattle.in_time.specs.Demand3.{OnRing}
+use Rattle.refusals.specs.Numbers.{done}
 
 -- ---- premises: the command
 
 -- The command of demand 3, whatever HLT does, if it ends: with HLT on throughout demand 3 says that it does.
 pub record Reads (s : Scene) (n : ℕ) : Type 0 where
   -- a single Read Sector: without m
-  pub reads : decoded_of s.machine.chip s.byte ≡ Taken ReadSector
+  pub reads : decoded_of s.machine.chip s.byte ≡ Some ReadSector
   pub single : is_multiple s.byte ≡ false
   -- accepted with the drive ready
-  pub accepted : (load_register s.machine s.lines 0 s.byte).number ≡ 0
+  pub accepted : (load_register s.machine s.lines 0 s.byte).outcome ≡ done
   pub ready : s.lines.ready ≡ true
   -- no other command accepted while it is Busy
   pub alone : Undisturbed s.host (loaded s)
@@ -40,7 +42,7 @@ pub record Reads (s : Scene) (n : ℕ) : Type 0 where
 -- ---- premises: the viewer
 
 -- "The viewer is lent the cells of both sides, density, track and sector": two sides, and the machine's density, TR and SR
-abbrev pub place_in : Scene → List ℕ → List ℕ → Place
+abbrev pub place_in : Scene → List ℕ → List ℕ → Result Place Refusal
 place_in s s0 s1 = place_of s0 s1 s.machine.mfm s.machine.regs.tr s.machine.regs.sr
 
 -- "and hands back the data cells"
@@ -49,8 +51,8 @@ shown s s0 s1 = part_cells (place_in s s0 s1) s0 s1
 
 -- it finds the sector on the side that is the scene's track: its data cells are those from one up to another
 pub data Finds (s : Scene) (s0 s1 : List ℕ) (from to : ℕ) : Type 0 where
-  on_side_0 : s0 ≡ s.row → place_in s s0 s1 ≡ Zero from to → Finds s s0 s1 from to
-  on_side_1 : s1 ≡ s.row → place_in s s0 s1 ≡ One from to → Finds s s0 s1 from to
+  on_side_0 : s0 ≡ s.row → place_in s s0 s1 ≡ Ok (Zero (span_of from to)) → Finds s s0 s1 from to
+  on_side_1 : s1 ≡ s.row → place_in s s0 s1 ≡ Ok (One (span_of from to)) → Finds s s0 s1 from to
 
 -- it finds a sector there, and the command can go by no other ID
 pub record Viewed (s : Scene) (s0 s1 : List ℕ) (from to : ℕ) : Type 0 where

@@ -12,8 +12,8 @@ use Rattle.scan.specs.Rows.{length_within}
 use Rattle.command.specs.Commands.{decoded_by_both, decoded_with_u, decoded_of, decode_refusal}
 use Rattle.command.proofs.Cases.{refused_bytes, listed_refused, others_taken}
 use Rattle.command.specs.declared.Chip.TheVariants.{Wd1793, Wd1797}
-use Rattle.command.specs.declared.Decoded.{Decoded}
-use Rattle.command.specs.declared.Decoded.TheVariants.{NoCommand}
+use Rattle.std.specs.Prelude.{Option, None}
+use Rattle.command.specs.declared.Command.{Command}
 use Rattle.activity.specs.Limits.{busy_in}
 use Rattle.activity.specs.declared.Activity.TheVariants.{Idle}
 use Rattle.registers.specs.declared.Lines.{Lines}
@@ -42,7 +42,7 @@ first_row k some given row earlier =
 
 -- ---- the bytes
 
-refused : {X : Type 0} {d : Decoded} → Takes X d → d ≡ NoCommand → X → ⊥
+refused : {X : Type 0} {d : Option Command} → Takes X d → d ≡ None → X → ⊥
 refused (takes c x) e = never (cc)
 refused (refuses none) e = none
 
@@ -55,7 +55,7 @@ pub is_one : (chip : Chip) → IsCommand chip 0x80
 is_one chip = inl (inr (inr (inr (inr (inr (inl ((omega arith, omega arith), refl)))))))
 
 -- none of the four is
-none_at : (chip : Chip) {b is : ℕ} → b ≡ is → decoded_of chip is ≡ NoCommand → IsCommand chip b → ⊥
+none_at : (chip : Chip) {b is : ℕ} → b ≡ is → decoded_of chip is ≡ None → IsCommand chip b → ⊥
 none_at chip e none = refused (named chip _) (ap (decoded_of chip) e ∙ none)
 
 pub no_longer : (chip : Chip) (b : ℕ) → NoLonger b → IsCommand chip b → ⊥
@@ -73,7 +73,7 @@ no_longer Wd1797 b (inr (inr (inr e))) = none_at Wd1797 e refl
 pub listed_none : (chip : Chip) (b : ℕ) → b < 256 → has_key (refused_bytes chip) b ≡ true → IsCommand chip b → ⊥
 listed_none chip b low e = refused (named chip b) (sym (listed_refused chip low e))
 
-is_taken : {X : Type 0} {d : Decoded} → Takes X d → 0 ≡ decode_refusal d → X
+is_taken : {X : Type 0} {d : Option Command} → Takes X d → 0 ≡ decode_refusal d → X
 is_taken (takes c x) e = x
 is_taken (refuses none) e = absurd (omega (arith, e))
 

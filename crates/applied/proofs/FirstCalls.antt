@@ -5,7 +5,6 @@ use mathlib.Core.Logic.{inl, inr}
 use mathlib.Core.List.{List}
 use Prim.Native.Nat.{ℕ, ◌+◌, ◌≤◌}
 use native.Mathlib.Omega.{arith}
-use lib.Dec.{eqb}
 use Rattle.scan.specs.Rows.{length_within}
 use Rattle.effects.specs.Effects.{effect_of}
 use Rattle.activity.specs.Limits.{busy_in, counts_within}
@@ -13,8 +12,7 @@ use Rattle.act.specs.Turns.{begun_activity, activity_act, act_of}
 use Rattle.registers.specs.declared.Lines.{Lines}
 use Rattle.registers.specs.Rings.{ring_within, ring_next, seen_of, condition_met}
 use Rattle.registers.specs.Registers.{read_refusal, read_byte, guarded, load_refusal, load_regs, load_wires}
-use Rattle.wd.specs.declared.Started.{Started}
-use Rattle.wd.specs.declared.Loaded.{Loaded}
+use Rattle.wd.specs.declared.Called.{Called}
 use Rattle.wd.specs.declared.Read.{Read}
 use Rattle.wd.specs.declared.Ran.{Ran}
 use Rattle.wd.specs.declared.Passed.{Passed}
@@ -40,13 +38,16 @@ use Rattle.demands.proofs.Demand1.{demand_1}
 use Rattle.demands.proofs.Demand2.{demand_2}
 use Rattle.applied.specs.FirstCalls.{FirstCalls}
 use Rattle.applied.proofs.Conditions.{is_one, one_with_u, accepts, taken as accepted}
+use Rattle.refusals.specs.Numbers.{done}
+use Rattle.std.specs.Result.{is_ok}
+use Rattle.refusals.proofs.Outcomes.{number_done}
 
 abbrev start : Bool → Chip → Desk
 start mfm chip = record { machine = fresh mfm chip; row = empty }
 
 -- ---- three calls
 
-module _ (mfm : Bool) (chip : Chip) (l l' l'' : Lines) (r : Loaded) (p : Passed) (row : List ℕ) (q : Read)
+module _ (mfm : Bool) (chip : Chip) (l l' l'' : Lines) (r : Called) (p : Passed) (row : List ℕ) (q : Read)
     (loaded : LoadCall (fresh mfm chip) l 1 5 r) (passes : ByteTimeCall r.machine l' empty p row)
     (reads : ReadCall p.machine l'' 1 q) where
   abbrev calls : Use (start mfm chip) (record { machine = q.machine; row = row })
@@ -78,7 +79,7 @@ module _ (mfm : Bool) (chip : Chip) (l : Lines) (p : Passed) (r : Ran) (row row'
   abbrev made_by : ℕ → Desk
   made_by n = due_at (passes_then n l silent) (start mfm chip) (n + 0 + 0)
 
-  time_after : made_by (cond (eqb p.number 0) 1 0) ≡ record { machine = p.machine; row = row }
+  time_after : made_by (cond (is_ok p.outcome) 1 0) ≡ record { machine = p.machine; row = row }
   unfolding host_of made_then passed passed_in served_at called_all at
   time_after = demand_2.every_use (start mfm chip) _ by_time silent 0
 
@@ -86,13 +87,13 @@ module _ (mfm : Bool) (chip : Chip) (l : Lines) (p : Passed) (r : Ran) (row row'
   unfolding host_of made_then passed passed_in served_at called_all at
   run_after_lem = demand_2.every_use (start mfm chip) _ by_run silent 0
 
-  same_count : r.tally.passed ≡ cond (eqb p.number 0) 1 0
+  same_count : r.tally.passed ≡ cond (is_ok p.outcome) 1 0
   unfolding Answered answered_by power_on length_within fresh_machine valid_of ring_within counts_within busy_in byte_time byte_time_row
       row_refusal done_by cell_turn act_applied effect_of act_of begun_activity activity_act bit_of conditions_for class_of condition_met
       run_from runs_on stops_at empty_run onward ran_to counted_of tallied
   same_count =
       ap (λ (a : Ran). a.tally.passed) (demand_2.exactly (start mfm chip) _ by_run).1.0
-      ∙ ap (λ (a : Passed). cond (eqb a.number 0) 1 0) (sym (demand_2.exactly (start mfm chip) _ by_time).1.0)
+      ∙ ap (λ (a : Passed). cond (is_ok a.outcome) 1 0) (sym (demand_2.exactly (start mfm chip) _ by_time).1.0)
 
   same_left : (r.machine ≡ p.machine) × (row' ≡ row)
   same_left =
@@ -101,29 +102,29 @@ module _ (mfm : Bool) (chip : Chip) (l : Lines) (p : Passed) (r : Ran) (row row'
 
 -- ---- the side output
 
-side_on : (mfm : Bool) (l l' : Lines) (r s : Loaded)
+side_on : (mfm : Bool) (l l' : Lines) (r s : Called)
     → LoadCall (fresh mfm Wd1797) l 0 0xC2 r
     → LoadCall r.machine l' 0 0xD0 s
     → (r.machine.sso ≡ true) × (s.machine.sso ≡ true)
 unfolding bit_of power_on length_within fresh_machine
 side_on mfm l l' r s first second =
-    let done = (demand_1.load (fresh mfm Wd1797) l 0 0xC2 r first).given.done.1 (accepted mfm Wd1797 l 0xC2 one_with_u) in
+    let asked = number_done _ ((demand_1.load (fresh mfm Wd1797) l 0 0xC2 r first).given.done.1 (accepted mfm Wd1797 l 0xC2 one_with_u)) in
     let on : r.machine.sso ≡ true =
-    ap (λ (q : Loaded). q.machine.sso) first.told
+    ap (λ (q : Called). q.machine.sso) first.told
     ∙ (demand_2.requests.side_output (fresh mfm Wd1797)).set l 0xC2 refl (inl (omega arith, omega arith))
-    (ap (λ (q : Loaded). q.number) (sym first.told) ∙ done) in (
+    (ap (λ (q : Called). q.outcome) (sym first.told) ∙ asked) in (
       on,
-      ap (λ (q : Loaded). q.machine.sso) second.told
+      ap (λ (q : Called). q.machine.sso) second.told
           ∙ (demand_2.requests.side_output r.machine).left l' 0xD0 (inr (omega arith, omega arith))
           ∙ on,
     )
 
 -- ---- power-on
 
-module _ (size : ℕ) (mfm : Bool) (chip : Chip) (r : Started) (least : 2048 ≤ size) (most : size ≤ 10416)
+module _ (size : ℕ) (mfm : Bool) (chip : Chip) (r : Called) (least : 2048 ≤ size) (most : size ≤ 10416)
     (call : PowerOnCall size mfm chip r) where
-  taken : r.number ≡ 0
-  taken = (demand_1.power_on_call size mfm chip r call).given.done.1 none
+  taken : r.outcome ≡ done
+  taken = number_done _ ((demand_1.power_on_call size mfm chip r call).given.done.1 none)
     where
       none : (j : ℕ) → AtPowerOn size j → ⊥
       none j (power_on_1 out) = out (least, most)
@@ -131,11 +132,11 @@ module _ (size : ℕ) (mfm : Bool) (chip : Chip) (r : Started) (least : 2048 ≤
   powered : PoweredOn size mfm chip r.machine
   powered = demand_2.starts size mfm chip r call taken
 
-  reads : (l : Lines) (s : Loaded) → LoadCall r.machine l 0 0x80 s → s.number ≡ 0
+  reads : (l : Lines) (s : Called) → LoadCall r.machine l 0 0x80 s → s.outcome ≡ done
   reads l s loads =
-      let holds = subst (λ (q : Started). Valid q.machine) (sym call.told) (power_on_valid size mfm chip) in
+      let holds = subst (λ (q : Called). Valid q.machine) (sym call.told) (power_on_valid size mfm chip) in
       let none = accepts r.machine l holds powered.idle 0x80 (is_one r.machine.chip) in
-      (demand_1.load r.machine l 0 0x80 s loads).given.done.1 none
+      number_done _ ((demand_1.load r.machine l 0 0x80 s loads).given.done.1 none)
 
 pub first_calls : FirstCalls
 first_calls =

@@ -17,14 +17,16 @@ use Rattle.uses.proofs.Calls.{a_byte_time}
 use Rattle.demands.proofs.Demand1.{demand_1}
 use Rattle.applied.specs.Refusals.{high}
 use Rattle.applied.proofs.Conditions.{first_row, cell_high, before_stopped, before_four}
+use Rattle.refusals.specs.Numbers.{number_in}
+use Rattle.refusals.proofs.Outcomes.{nonzero-done, done_number}
 
 pub above : (mfm : Bool) (chip : Chip) (l : Lines) (r : Passed) (row : List ℕ)
     → ByteTimeCall (fresh mfm chip) l high r row
-    → (r.number ≡ 4) × (r.machine ≡ fresh mfm chip) × (row ≡ high)
+    → (number_in r.outcome ≡ 4) × (r.machine ≡ fresh mfm chip) × (row ≡ high)
 above mfm chip l r row call =
     let safe = demand_1.byte_time_call (fresh mfm chip) l high r row call in
     let (is, some) = first_row 4 (omega arith) safe.given (byte_time_4 (cell_high mfm chip)) (before_four mfm chip l) in
-    let (machine, left) = safe.refused some in
+    let (machine, left) = safe.refused (nonzero-done _ some) in
     (is, machine, left)
 
 module _ (mfm : Bool) (chip : Chip) (l : Lines) (limit : ℕ) (r : Ran) (row : List ℕ) (some : 0 < limit)
@@ -35,7 +37,7 @@ module _ (mfm : Bool) (chip : Chip) (l : Lines) (limit : ℕ) (r : Ran) (row : L
   comes : ComesTo (fresh mfm chip) l limit high 0
   comes = record { below = some; done = λ k low. absurd (omega arith); quiet = λ k low. absurd (omega arith) }
 
-  four : r.number ≡ 4
+  four : number_in r.outcome ≡ 4
   unfolding machine_after row_after
   four = (first_row 4 (omega arith) safe.given (run_4 0 comes (cell_high mfm chip)) (before_stopped mfm chip l limit)).0
 
@@ -47,11 +49,11 @@ module _ (mfm : Bool) (chip : Chip) (l : Lines) (limit : ℕ) (r : Ran) (row : L
       by : Dec (0 < r.tally.passed) → r.tally.passed ≡ 0
       by (yes more) =
           absurd
-          (omega (arith, (safe.stopped four).comes.done 0 more, (above mfm chip l _ _ (a_byte_time (fresh mfm chip) l high)).0))
+          (omega (arith, done_number _ ((safe.stopped four).comes.done 0 more), (above mfm chip l _ _ (a_byte_time (fresh mfm chip) l high)).0))
       by (no none) = omega arith
 
   pub stopped :
-      (r.number ≡ 4)
+      (number_in r.outcome ≡ 4)
       × (r.machine ≡ fresh mfm chip)
       × (row ≡ high)
       × (r.tally ≡ record { passed = 0; inward = 0; outward = 0 })

@@ -24,6 +24,7 @@ use Rattle.demands.proofs.Demand1.{demand_1}
 use Rattle.demands.proofs.Demand3.{demand_3}
 use Rattle.applied.proofs.Commands.{read_80, read_84}
 use Rattle.applied.specs.NotFound.{OverEmpty, TakesThere, NotFound}
+use Rattle.refusals.proofs.Outcomes.{done_number}
 
 module _ (L : ℕ) (mfm : Bool) (byte cell : ℕ) (single : SingleRead byte) where
   abbrev settles : ℕ
@@ -38,7 +39,7 @@ module _ (L : ℕ) (mfm : Bool) (byte cell : ℕ) (single : SingleRead byte) whe
         by (suc n) e = omega arith
         by zero e =
             let safe = demand_1.load c.machine c.lines 0 c.byte c.answer c.call in
-            absurd (safe.given.done.0 c.number 2 (load_2 (range (λ (least, most). omega (arith, least, e)))))
+            absurd (safe.given.done.0 (done_number _ c.outcome) 2 (load_2 (range (λ (least, most). omega (arith, least, e)))))
 
     nowhere : OnRing (track_of c) → ⊥
     nowhere = empty_nowhere L some (track_of c) is.row

@@ -6,6 +6,7 @@ use mathlib.Core.Logic.{inl, inr}
 use Prim.Native.Nat.{ℕ, suc, ◌+◌, ◌/◌, ◌≤◌, ◌<◌}
 use native.Mathlib.Omega.{arith}
 use lib.ListN.{length}
+use Rattle.refusals.specs.Numbers.{number_in}
 use Rattle.picture.specs.declared.Answer.{Answer}
 use Rattle.safe.specs.Pictures.{Form, flags_last, IsKind, eight_inch_fm, eight_inch_mfm, kind_byte, cell_of_picture, AtReader, empty, no_kind, ends_early, no_room, unsound, TakenPicture}
 use Rattle.safe.proofs.Pictures.{same_kind}
@@ -37,7 +38,7 @@ module _ (byte letter : ℕ) (mfm : Bool) (cells body : ℕ)
           let same = same_kind k is in
           no_padding set.bit (rw same at set.beyond) (rw same at set.inside)
 
-      done : r.number ≡ 0
+      done : number_in r.outcome ≡ 0
       done = (demand_1.picture bytes room r room' call).given.done.1 no_turn
 
       taken : TakenPicture bytes room r room'
@@ -61,7 +62,7 @@ module _ (byte letter : ℕ) (mfm : Bool) (cells body : ℕ)
                 ∙ ap (λ (f : Form). cell_of_picture bytes f i) same_form;
           }
 
-    cut_short : 0 < body → length bytes ≡ body → (r.number ≡ 9) × (room' ≡ room)
+    cut_short : 0 < body → length bytes ≡ body → (number_in r.outcome ≡ 9) × (room' ≡ room)
     cut_short some size =
         let safe = demand_1.picture bytes room r room' call in
         let number = (safe.given.exactly 9 (omega arith)).1 (2, refl, ends_early form is (omega arith), first) in

@@ -7,6 +7,7 @@ use Rattle.hosts.specs.Hosts.{Desk}
 use Rattle.uses.specs.CallContracts.{ByteTimeCall}
 use Rattle.uses.specs.Uses.{Use, throughout, no_command, head_loaded, passed}
 use Rattle.uses.specs.Courses.{not_found_bit, busy_bit, Shows, Accepted, since, Course, took}
+use Rattle.refusals.specs.Numbers.{done}
 
 -- this byte, accepted with the drive ready by a machine of this density whose head is on this cell of an empty track of L cells; at
 -- power-on that is cell 0
@@ -33,7 +34,7 @@ pub record NotFound : Type 0 where
       → throughout no_command u ≡ true
       → (l : Lines) (r : Passed) (row : List ℕ)
       → ByteTimeCall e.machine l e.row r row
-      → r.number ≡ 0
+      → r.outcome ≡ done
   -- "within 5L": when so many byte times have passed Busy is off, in every use
   pub over : (L : ℕ) (mfm : Bool) (cell : ℕ) (c : Accepted) (e : Desk) (u : Use (since c) e)
       → OverEmpty L mfm 0x80 cell c

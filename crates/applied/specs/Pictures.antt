@@ -1,6 +1,7 @@
 -- What the picture reader says to a picture of each kind of an eight-inch disk. Assumes nothing.
 use Rattle.std.specs.Prelude.{◌≡◌, Bool, true, false, cond, List, ℕ, suc, ◌+◌, ◌-◌, ◌/◌, ◌%◌, ◌≤◌, ◌<◌, length, get_or}
 use Rattle.common.specs.Bits.{bit_of}
+use Rattle.refusals.specs.Numbers.{number_in}
 use Rattle.picture.specs.declared.Answer.{Answer}
 use Rattle.picture.specs.Kinds.{shape_of}
 use Rattle.uses.specs.CallContracts.{PictureCall}
@@ -13,7 +14,7 @@ pub record LentPicture (byte cells : ℕ) (bytes room : List ℕ) : Type 0 where
 
 -- what it is read as: the letter that the list prints, the density, the cells of the track and how many bytes are taken
 pub record ReadSo (letter : ℕ) (mfm : Bool) (cells size : ℕ) (bytes : List ℕ) (r : Answer) (room' : List ℕ) : Type 0 where
-  pub number : r.number ≡ 0
+  pub number : number_in r.outcome ≡ 0
   pub letter_of : (shape_of r.kind).letter ≡ letter
   pub density : (shape_of r.kind).mfm ≡ mfm
   pub length_of : (shape_of r.kind).length ≡ cells
@@ -36,7 +37,7 @@ pub record ReadAs (byte letter : ℕ) (mfm : Bool) (cells size : ℕ) : Type 0 w
       → PictureCall bytes room r room'
       → LentPicture byte cells bytes room
       → suc (length bytes) ≡ size
-      → (r.number ≡ 9) × (room' ≡ room)
+      → (number_in r.outcome ≡ 9) × (room' ≡ room)
 
 -- "The list prints f and m as the kind.": 66 and 6D are these letters in ASCII too
 pub record EightInchPictures : Type 0 where

@@ -1,5 +1,4 @@
--- What the functions of `bench` give, and what holds of the rows from line to line.
+-- What the functions of `bench` give.
 pub mod Numbers
 pub mod Rows
-pub mod Tasks
 pub mod States

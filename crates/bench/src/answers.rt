@@ -1,23 +1,24 @@
-// What a line that worked the controller prints: its letter, what the call gave, and the state.
+// What a line that worked the controller prints: what the call gave, and the state.
 ghost use Rattle.std.specs.Prelude.{◌≡◌};
 ghost use Rattle.bench.specs.States.{state_of};
 
-use crate::output;
-use crate::output::Outgoing;
+use crate::digits::{Hex, bit, byte, word};
 use command::Chip;
+use refusals::Outcome;
 use registers::{Lines, Regs, Wires};
+use std::fmt;
+use std::fmt::{Display, Formatter};
 use wd::{Machine, Tally};
 
 // What a call gave.
 #[derive(Clone, Copy)]
 pub enum Answer {
     Nothing,
-    // A number of document 01.
-    Number(u8),
-    // The same, and a byte.
-    Byte(u8, u8),
-    // The same, and what passed.
-    Run(u8, Tally),
+    Done(Outcome),
+    // An outcome and a byte.
+    Byte(Outcome, u8),
+    // An outcome and what passed.
+    Run(Outcome, Tally),
 }
 
 // The status byte that a read would give, TR, SR and DR, DRQ and INTRQ, the head's position, and the chip with its side output.
@@ -31,92 +32,63 @@ pub struct State {
     pub sso: bool,
 }
 
-// The state of a machine under its drive lines. What the read of the status would change is dropped.
-#[tactic(auto, unfolding(crate::specs::States::state_of))]
-fn state_of(machine: Machine, lines: Lines) -> State
-    ensures { result ≡ state_of machine lines }
-{
-    let read = machine.read_register(lines, 0);
-    let regs = machine.regs;
-    let wires = machine.wires;
-    let ring = machine.ring;
-    let chip = machine.chip;
-    State {
-        status: read.byte,
-        regs,
-        wires,
-        position: ring.position,
-        chip,
-        sso: machine.sso,
-    }
-}
-
-// The side output, where the chip has one.
-fn put_side(out: &mut Outgoing, waiting: u16, chip: Chip, sso: bool) -> u16 {
-    match chip {
-        Chip::Wd1793 => {
-            return waiting;
-        }
-        Chip::Wd1797 => {
-            return output::put_number(out, waiting, 1, sso as u16);
+impl State {
+    // The state of a machine under its drive lines. What the read of the status would change is dropped.
+    #[tactic(auto, unfolding(crate::specs::States::state_of))]
+    pub fn of(machine: Machine, lines: Lines) -> State
+        ensures { result ≡ state_of machine lines }
+    {
+        State {
+            status: machine.read_register(lines, 0).byte,
+            regs: machine.regs,
+            wires: machine.wires,
+            position: machine.ring.position,
+            chip: machine.chip,
+            sso: machine.sso,
         }
     }
 }
 
-fn put_state(out: &mut Outgoing, waiting: u16, state: State) -> u16 {
-    let regs = state.regs;
-    let wires = state.wires;
-    let chip = state.chip;
-    let bytes = [
-        state.status as u16,
-        regs.tr as u16,
-        regs.sr as u16,
-        regs.dr as u16,
-    ];
-    let flags = [wires.drq as u16, wires.intrq as u16, 0, 0];
-    let space = output::put(out, waiting, b' ');
-    let bar = output::put(out, space, b'|');
-    let first = output::put_numbers(out, bar, 2, 4, bytes);
-    let second = output::put_numbers(out, first, 1, 2, flags);
-    let third = output::put_number(out, second, 4, state.position);
-    put_side(out, third, chip, state.sso)
+// Document 01's number of an outcome.
+fn number(outcome: Outcome) -> Hex {
+    byte(refusals::number(outcome))
 }
 
-fn put_answer(out: &mut Outgoing, waiting: u16, answer: Answer) -> u16 {
-    match answer {
-        Answer::Nothing => {
-            return waiting;
-        }
-        Answer::Number(number) => {
-            return output::put_number(out, waiting, 2, number as u16);
-        }
-        Answer::Byte(number, byte) => {
-            return output::put_numbers(out, waiting, 2, 2, [number as u16, byte as u16, 0, 0]);
-        }
-        Answer::Run(number, tally) => {
-            let behind = output::put_number(out, waiting, 2, number as u16);
-            return output::put_numbers(
-                out,
-                behind,
-                4,
-                3,
-                [tally.passed, tally.inward, tally.outward, 0],
-            );
+impl Display for Answer {
+    fn fmt<W: fmt::Write>(&self, f: &mut Formatter<W>) -> fmt::Result {
+        match *self {
+            Answer::Nothing => Ok(()),
+            Answer::Done(outcome) => write!(f, " {}", number(outcome)),
+            Answer::Byte(outcome, value) => write!(f, " {} {}", number(outcome), byte(value)),
+            Answer::Run(outcome, tally) => write!(
+                f,
+                " {} {} {} {}",
+                number(outcome),
+                word(tally.passed),
+                word(tally.inward),
+                word(tally.outward)
+            ),
         }
     }
 }
 
-pub fn print(
-    out: &mut Outgoing,
-    waiting: u16,
-    letter: u8,
-    answer: Answer,
-    machine: Machine,
-    lines: Lines,
-) -> u16 {
-    let state = state_of(machine, lines);
-    let first = output::put(out, waiting, letter);
-    let second = put_answer(out, first, answer);
-    let third = put_state(out, second, state);
-    output::put(out, third, b'\n')
+impl Display for State {
+    fn fmt<W: fmt::Write>(&self, f: &mut Formatter<W>) -> fmt::Result {
+        let Regs { tr, sr, dr, .. } = self.regs;
+        write!(
+            f,
+            " | {} {} {} {}",
+            byte(self.status),
+            byte(tr),
+            byte(sr),
+            byte(dr)
+        )?;
+        let Wires { drq, intrq } = self.wires;
+        write!(f, " {} {} {}", bit(drq), bit(intrq), word(self.position))?;
+        match self.chip {
+            Chip::Wd1793 => Ok(()),
+            // It has a side output.
+            Chip::Wd1797 => write!(f, " {}", bit(self.sso)),
+        }
+    }
 }

@@ -1,25 +1,23 @@
-// The lines that work the controller, each one call of the library.
+// The controller and its drive lines, and the lines of a script that work them, each one call of the library.
 ghost use Rattle.std.specs.Prelude.{◌≡◌};
 ghost use Rattle.bench.specs.Numbers.{drive_lines, chip_of, pulse_byte};
-ghost use Rattle.bench.specs.Rows.{Room, RowsFit};
 
-use crate::answers::Answer;
-use crate::rows::Rows;
+use crate::answers::{Answer, State};
 use command::Chip;
-use registers::{Lines, Pulse, Ring};
+use registers::{Lines, Pulse};
 use scan::SHORTEST_ROW;
-use script::{Call, Request};
+use script::Call;
 use wd::Machine;
 
-// The machine after a call, and what the call gave.
+// A controller, and the drive lines that it is under.
 #[derive(Clone, Copy)]
-pub struct Answered {
-    pub machine: Machine,
-    pub answer: Answer,
+pub struct Controller {
+    machine: Machine,
+    lines: Lines,
 }
 
-// Drive lines by the bits of a number: Ready, protect, track 0, HLT.
-pub fn lines_of(bits: u8) -> Lines
+// Drive lines by the bits of a number: Ready, protect, track 0, HLT. (No From, here and below: neither type is this crate's.)
+fn lines_of(bits: u8) -> Lines
     ensures { result ≡ drive_lines bits }
 {
     Lines {
@@ -34,46 +32,7 @@ pub fn lines_of(bits: u8) -> Lines
 fn chip_of(wd1797: bool) -> Chip
     ensures { result ≡ chip_of wd1797 }
 {
-    if wd1797 {
-        return Chip::Wd1797;
-    }
-    Chip::Wd1793
-}
-
-// Before the first power-on: the FM machine of the shortest row, a WD1793.
-pub fn start() -> Machine {
-    let started = Machine::power_on(SHORTEST_ROW as u16, false, Chip::Wd1793);
-    started.machine
-}
-
-// Line P.
-fn power_on(mfm: bool, length: u16, wd1797: bool) -> Answered {
-    let started = Machine::power_on(length, mfm, chip_of(wd1797));
-    let machine = started.machine;
-    Answered {
-        machine,
-        answer: Answer::Number(started.number),
-    }
-}
-
-// Line W.
-fn load(machine: Machine, lines: Lines, register: u8, byte: u8) -> Answered {
-    let loaded = machine.load_register(lines, register, byte);
-    let next = loaded.machine;
-    Answered {
-        machine: next,
-        answer: Answer::Number(loaded.number),
-    }
-}
-
-// Line R.
-fn read(machine: Machine, lines: Lines, register: u8) -> Answered {
-    let read = machine.read_register(lines, register);
-    let next = read.machine;
-    Answered {
-        machine: next,
-        answer: Answer::Byte(read.number, read.byte),
-    }
+    if wd1797 { Chip::Wd1797 } else { Chip::Wd1793 }
 }
 
 // 00 for no step pulse, 01 for one in, 02 for one out.
@@ -87,92 +46,75 @@ fn pulse_byte(pulse: Pulse) -> u8
     }
 }
 
-// Line B.
-fn byte_time(machine: Machine, lines: Lines, row: &mut [u16]) -> Answered {
-    let passed = machine.byte_time(lines, row);
-    let next = passed.machine;
-    let pulse = passed.pulse;
-    Answered {
-        machine: next,
-        answer: Answer::Byte(passed.number, pulse_byte(pulse)),
-    }
-}
-
-// Line G.
-fn run(machine: Machine, lines: Lines, limit: u16, row: &mut [u16]) -> Answered {
-    let ran = machine.run(lines, limit, row);
-    let next = ran.machine;
-    let tally = ran.tally;
-    Answered {
-        machine: next,
-        answer: Answer::Run(ran.number, tally),
-    }
-}
-
-// Lines X and Y.
-fn set_ring(machine: Machine, length: u16, position: u16) -> Answered {
-    let ring = Ring { length, position };
-    let mut next = machine;
-    next.ring = ring;
-    Answered {
-        machine: next,
-        answer: Answer::Nothing,
-    }
-}
-
-// What is asked of the controller that is there, over a row.
-fn carry_out(machine: Machine, lines: Lines, call: Call, row: &mut [u16]) -> Answered {
-    let ring = machine.ring;
-    match call {
-        Call::Load { register, byte } => {
-            return load(machine, lines, register, byte);
-        }
-        Call::Read { register } => {
-            return read(machine, lines, register);
-        }
-        Call::ByteTime => {
-            return byte_time(machine, lines, row);
-        }
-        Call::Run { limit } => {
-            return run(machine, lines, limit, row);
-        }
-        Call::SetPosition { position } => {
-            return set_ring(machine, ring.length, position);
-        }
-        Call::SetLength { length } => {
-            return set_ring(machine, length, ring.position);
+impl Controller {
+    // Before the first power-on: the FM machine of the shortest row, a WD1793; and all drive lines off.
+    pub fn start() -> Controller {
+        Controller {
+            machine: Machine::power_on(SHORTEST_ROW as u16, false, Chip::Wd1793).machine,
+            lines: lines_of(0),
         }
     }
-}
 
-// What a line asks of the controller, over the current row.
-pub fn answer(
-    machine: Machine,
-    lines: Lines,
-    request: Request,
-    rows: Rows,
-    cells: &mut [u16],
-) -> Answered
-    requires { RowsFit rows × Room cells.old }
-{
-    match request {
-        Request::PowerOn {
-            mfm,
-            length,
-            wd1797,
-        } => {
-            return power_on(mfm, length, wd1797);
+    // Line P.
+    pub fn power_on(&mut self, mfm: bool, length: u16, wd1797: bool) -> Answer {
+        let started = Machine::power_on(length, mfm, chip_of(wd1797));
+        self.machine = started.machine;
+        Answer::Done(started.outcome)
+    }
+
+    // Line N.
+    pub fn set_lines(&mut self, bits: u8) {
+        self.lines = lines_of(bits);
+    }
+
+    // Line W.
+    fn load(&mut self, register: u8, byte: u8) -> Answer {
+        let loaded = self.machine.load_register(self.lines, register, byte);
+        self.machine = loaded.machine;
+        Answer::Done(loaded.outcome)
+    }
+
+    // Line R.
+    fn read(&mut self, register: u8) -> Answer {
+        let read = self.machine.read_register(self.lines, register);
+        self.machine = read.machine;
+        Answer::Byte(read.outcome, read.byte)
+    }
+
+    // Line B.
+    fn byte_time(&mut self, row: &mut [u16]) -> Answer {
+        let passed = self.machine.byte_time(self.lines, row);
+        self.machine = passed.machine;
+        Answer::Byte(passed.outcome, pulse_byte(passed.pulse))
+    }
+
+    // Line G.
+    fn run(&mut self, limit: u16, row: &mut [u16]) -> Answer {
+        let ran = self.machine.run(self.lines, limit, row);
+        self.machine = ran.machine;
+        Answer::Run(ran.outcome, ran.tally)
+    }
+
+    // What is asked of the controller that is there, over a row.
+    pub fn carry_out(&mut self, call: Call, row: &mut [u16]) -> Answer {
+        match call {
+            Call::Load { register, byte } => self.load(register, byte),
+            Call::Read { register } => self.read(register),
+            Call::ByteTime => self.byte_time(row),
+            Call::Run { limit } => self.run(limit, row),
+            Call::SetPosition { position } => {
+                self.machine.ring.position = position;
+                Answer::Nothing
+            }
+            Call::SetLength { length } => {
+                self.machine.ring.length = length;
+                Answer::Nothing
+            }
         }
-        Request::Controller(call) => {
-            let at = rows.at;
-            let end = at + rows.current;
-            return carry_out(machine, lines, call, &mut cells[at..end]);
-        }
-        _ => {
-            return Answered {
-                machine,
-                answer: Answer::Nothing,
-            };
-        }
+    }
+
+    // The state that a line prints.
+    pub fn state(&self) -> State {
+        State::of(self.machine, self.lines)
     }
 }

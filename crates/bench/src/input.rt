@@ -1,19 +1,22 @@
-// The lines of standard input, over a buffer.
+// The lines of standard input, over a buffer of our own: a BufReader has its on the heap.
 ghost use Rattle.std.specs.Prelude.{◌≤◌};
 
-use crate::output;
-use crate::output::{Buffer, Outgoing};
-use script::{Line, Reader};
+use crate::output::Outgoing;
+use script::{BadLine, Line, Reader};
 use std::io;
-use std::io::Stdin;
+use std::io::{Read, Stdin, Write};
+use std::ops::Range;
 
-// Standard input, the bytes that were read from it last, and how the reads have gone so far: one that fails is kept for `main`
-// to end with.
+// Standard input, the bytes that were read from it last, and the places of those that are still to be taken.
 #[derive(Drop)]
 pub struct Incoming {
     stdin: Stdin,
-    bytes: Buffer,
+    bytes: [u8; 65536],
+    left: Range<usize>,
+    over: bool,
+    // The first error of a read, kept for `main` to end with: what was read before it is carried out.
     outcome: io::Result<()>,
+    ghost within: { left.end ≤ 65536 },
 }
 
 impl Incoming {
@@ -21,134 +24,54 @@ impl Incoming {
         Incoming {
             stdin,
             bytes: [0; 65536],
+            left: 0..0,
+            over: false,
             outcome: Ok(()),
         }
     }
 
-    // Reads once, and says how many bytes came: none where the input is over, which a failed read counts as.
-    fn read(&mut self) -> usize
-        ensures { result ≤ 65536 }
-    {
-        match io::Read::read(&mut self.stdin, &mut self.bytes) {
+    // Whether the input is over, which a failed read counts as.
+    pub fn is_over(&self) -> bool {
+        self.over
+    }
+
+    pub fn outcome(self) -> io::Result<()> {
+        self.outcome
+    }
+
+    // Reads once: where no byte comes, the input is over.
+    fn read(&mut self) {
+        let count = match self.stdin.read(&mut self.bytes) {
             Ok(count) => count,
             Err(error) => {
                 self.outcome = Err(error);
                 0
             }
-        }
-    }
-
-    // The error of a read, where there was one.
-    pub fn outcome(self) -> io::Result<()> {
-        self.outcome
-    }
-}
-
-// Where in the buffer the next byte stands, how many from there on are still to be taken, and whether the input is over.
-#[derive(Clone, Copy)]
-pub struct Source {
-    pub at: u16,
-    pub left: usize,
-    pub over: bool,
-}
-
-// A byte of the input; where the input is over, the newline that ends its last line.
-#[derive(Clone, Copy)]
-pub struct Taken {
-    pub byte: u8,
-    pub source: Source,
-}
-
-// A line, and how many bytes of output still wait after it was read.
-#[derive(Clone, Copy)]
-pub struct Read {
-    pub line: Line,
-    pub source: Source,
-    pub waiting: u16,
-}
-
-impl Source {
-    pub fn start() -> Source {
-        Source {
-            at: 0,
-            left: 0,
-            over: false,
-        }
-    }
-}
-
-// Where the next byte is still to be read, the bytes of output that wait go out first: who types a line may wait for its
-// answer before typing the next one.
-fn flush_before_read(source: Source, out: &mut Outgoing, waiting: u16) -> u16 {
-    if 0 < source.left {
-        return waiting;
-    }
-    output::flush(out, waiting);
-    0
-}
-
-// Reads once more where nothing is left. Where a write has failed, nobody is there for the answer to another line: the input
-// counts as over.
-fn filled(source: Source, input: &mut Incoming, out: &Outgoing) -> Source {
-    if 0 < source.left {
-        return source;
-    }
-    let left = if out.has_failed() { 0 } else { input.read() };
-    Source {
-        at: 0,
-        left,
-        over: left == 0,
-    }
-}
-
-// Takes the next byte.
-fn take(source: Source, input: &mut Incoming, out: &Outgoing) -> Taken {
-    let ready = filled(source, input, out);
-    let at = ready.at;
-    let left = ready.left;
-    if left == 0 {
-        return Taken {
-            byte: b'\n',
-            source: ready,
         };
+        self.left = 0..count;
+        self.over = count == 0;
     }
-    Taken {
-        byte: input.bytes[at as usize],
-        source: Source {
-            at: at.wrapping_add(1),
-            left: left - 1,
-            over: false,
-        },
-    }
-}
 
-// Reads a line, to its newline; of the output so many bytes wait. A proved loop has to end: so the bytes are counted down,
-// from a number that no line has.
-pub fn next_line(source: Source, input: &mut Incoming, out: &mut Outgoing, waiting: u16) -> Read
-    ensures { result.line.count ≤ 65 }
-{
-    let mut reader = Reader::start();
-    let mut rest = source;
-    let mut count = waiting;
-    let mut left = u64::MAX;
-    while 0 < left {
-        count = flush_before_read(rest, out, count);
-        let taken = take(rest, input, out);
-        let byte = taken.byte;
-        rest = taken.source;
-        if byte == b'\n' {
-            return Read {
-                line: reader.ended(!rest.over),
-                source: rest,
-                waiting: count,
-            };
+    // The next byte; none where the input is over. Where it is still to be read, the bytes of output that wait go out first: who
+    // types a line may wait for its answer before typing the next one.
+    fn next(&mut self, out: &mut Outgoing) -> io::Result<Option<u8>> {
+        if self.left.is_empty() {
+            out.flush()?;
+            self.read();
         }
-        reader = reader.fed(byte);
-        left -= 1;
+        Ok(self.left.next().map(|at| self.bytes[at]))
     }
-    Read {
-        line: reader.ended(false),
-        source: rest,
-        waiting: count,
+
+    // Reads a line, to its newline or to the end of the input. A proved loop has to end: so it ends at a length that no line has.
+    pub fn line(&mut self, out: &mut Outgoing) -> io::Result<Result<Line, BadLine>> {
+        let mut reader = Reader::start();
+        for _ in 0..u64::MAX {
+            match self.next(out)? {
+                Some(b'\n') => return Ok(reader.ended(true)),
+                Some(byte) => reader = reader.fed(byte),
+                None => break,
+            }
+        }
+        Ok(reader.ended(false))
     }
 }

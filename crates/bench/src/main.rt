@@ -3,74 +3,53 @@
 
 mod answers;
 mod calls;
+mod digits;
+mod failures;
 mod input;
 mod output;
 mod rows;
 mod sessions;
-mod tasks;
 mod views;
 
-use input::{Incoming, Source};
+use failures::Failure;
+use input::Incoming;
 use output::Outgoing;
-use rows::Cells;
+use sessions::Session;
 use std::io;
+use std::io::Write;
 
-// How a script ended: how many bytes of output wait, and the number of the line that could not be carried out, or 0.
-#[derive(Clone, Copy)]
-struct Ended {
-    waiting: u16,
-    failed: u64,
+// Reads a line and carries it out.
+fn work_line(
+    session: &mut Session,
+    input: &mut Incoming,
+    out: &mut Outgoing,
+) -> Result<(), Failure> {
+    let line = input.line(out)??;
+    session.carry_out(&line, out)
 }
 
-// Works the whole script. A proved loop has to end, and nothing says that the input does: so it ends at a line's number that
-// no script reaches.
-fn work(cells: &mut Cells, input: &mut Incoming, out: &mut Outgoing) -> Ended {
-    let mut machine = calls::start();
-    let mut session = sessions::start();
-    let mut source = Source::start();
-    let mut number = 0u64;
-    while number < u64::MAX {
-        number += 1;
-        let read = input::next_line(source, input, out, session.waiting);
-        source = read.source;
-        session.waiting = read.waiting;
-        let request = script::request_of(read.line);
-        let answered = calls::answer(machine, session.lines, request, session.rows, cells);
-        machine = answered.machine;
-        session = sessions::carry_out(session, read.line, request, cells, out);
-        session = sessions::tell(session, read.line, request, answered, out);
-        if session.failed {
-            return Ended {
-                waiting: session.waiting,
-                failed: number,
-            };
-        }
-        if source.over {
-            return Ended {
-                waiting: session.waiting,
-                failed: 0,
-            };
+// Works the script up to its end, or to a line that is an error, and prints the number of that one. A proved loop has to end, and
+// nothing says that the input does: so it ends at a line's number that no script reaches.
+fn work(session: &mut Session, input: &mut Incoming, out: &mut Outgoing) -> io::Result<()> {
+    for number in 1..=u64::MAX {
+        match work_line(session, input, out) {
+            Ok(()) if input.is_over() => break,
+            Ok(()) => {}
+            Err(Failure::Script(_)) => {
+                writeln!(out, "error {number}")?;
+                break;
+            }
+            Err(Failure::Write(error)) => return Err(error),
         }
     }
-    Ended {
-        waiting: session.waiting,
-        failed: 0,
-    }
-}
-
-fn run(cells: &mut Cells, input: &mut Incoming, out: &mut Outgoing) {
-    let ended = work(cells, input, out);
-    output::flush(out, ended.waiting);
-    if 0 < ended.failed {
-        output::print_error(out, ended.failed);
-    }
+    out.flush()
 }
 
 fn main(rt: HostRuntime) -> io::Result<()> {
-    let mut cells = [0x00FFu16; rows::BOTH];
+    let mut session = Session::start();
     let mut input = Incoming::start(rt.stdin());
     let mut out = Outgoing::start(rt.stdout());
-    run(&mut cells, &mut input, &mut out);
+    let worked = work(&mut session, &mut input, &mut out);
     input.outcome()?;
-    out.outcome()
+    worked
 }

@@ -1,47 +1,32 @@
-// Rows of cells: their sizes, and what is laid into them.
-ghost use Rattle.std.specs.Prelude.{◌≡◌, ◌+◌, ◌-◌, ◌≤◌, slice_index};
-ghost use Rattle.common.specs.Laid.{laid_row};
-ghost use Rattle.bench.specs.Rows.{both_rows, RowsFit};
+// Two rows of cells, and the lines of a script that work them.
+ghost use Rattle.std.specs.Prelude.{◌≡◌, ◌↔◌, ◌+◌, ◌-◌, ◌≤◌, ◌++◌, length, take, drop, replicate, false, IsTrue, IsOk, IfOk, OnOk, OnErr};
+ghost use Rattle.arrayvec.specs.ArrayVec.{array_vec_len};
+ghost use Rattle.scan.specs.Rows.{longest_row, length_within};
 ghost use Rattle.bench.specs.Numbers.{gap_of};
+ghost use Rattle.bench.specs.Rows.{row_with};
 
-// The most cells that a row has room for.
-pub const ROOM: usize = scan::LONGEST_ROW;
+use arrayvec::ArrayVec;
+use scan::{LONGEST_ROW, SHORTEST_ROW};
+use script::{BadLine, Line, Task};
+use std::mem;
+use std::ops::Range;
 
-// The two rows, one after the other, each with its room.
-pub const BOTH: usize = 2 * ROOM;
+pub type Row = ArrayVec<u16, LONGEST_ROW>;
 
-pub type Cells = [u16; BOTH];
-
-// Where the current row begins, how many cells it has, and how many the other row.
-#[derive(Clone, Copy)]
+#[derive(Drop)]
 pub struct Rows {
-    pub at: usize,
-    pub current: usize,
-    pub other: usize,
+    current: Row,
+    other: Row,
 }
 
-// The cells from one place up to another become one and the same.
-pub fn fill(cells: &mut Cells, from: usize, to: usize, cell: u16)
-    requires { to ≤ both_rows }
-    ensures { cells.new ≡ laid_row cells.old (λ i. from + i) (λ _. cell) (to - from) }
+// A row has so many cells from now on; those that it did not have become one and the same.
+fn resize(row: &mut Row, size: usize, cell: u16)
+    requires { size ≤ longest_row }
+    ensures { row.new.items ≡ take size row.old.items ++ replicate (size - array_vec_len row.old) cell }
 {
-    let mut i = from;
-    while i < to {
-        cells[i] = cell;
-        i += 1;
-    }
-}
-
-// The cells from a place on become those of so many numbers that stand after the first.
-pub fn set(cells: &mut Cells, place: usize, numbers: [u16; 65], count: usize)
-    requires { (place + count ≤ both_rows + 1) × (count ≤ 65) }
-    ensures { cells.new
-        ≡ laid_row cells.old (λ i. place + i) (λ i. slice_index numbers (i + 1)) (count - 1) }
-{
-    let mut i = 1;
-    while i < count {
-        cells[place + i - 1] = numbers[i];
-        i += 1;
+    row.truncate(size);
+    for _ in row.len()..size {
+        row.push(cell);
     }
 }
 
@@ -52,20 +37,125 @@ fn gap(mfm: bool) -> u16
     if mfm { 0x004E } else { 0x00FF }
 }
 
-// Both rows become so many cells of an empty track, where power-on takes a track of so many.
-pub fn blank(rows: Rows, size: usize, mfm: bool, cells: &mut Cells) -> Rows
-    requires { RowsFit rows }
-    ensures { RowsFit result }
-{
-    let cell = gap(mfm);
-    if scan::length_within(size) {
-        fill(cells, 0, size, cell);
-        fill(cells, ROOM, ROOM + size, cell);
-        return Rows {
-            at: rows.at,
-            current: size,
-            other: size,
+impl Rows {
+    // Before the first line: two shortest rows.
+    pub fn start() -> Rows {
+        let mut rows = Rows {
+            current: Row::new(),
+            other: Row::new(),
         };
+        rows.blank(SHORTEST_ROW, false);
+        rows
     }
-    rows
+
+    // The current row, side 0 of the viewer.
+    pub fn current(&self) -> &[u16] {
+        self.current.as_slice()
+    }
+
+    pub fn current_mut(&mut self) -> &mut [u16] {
+        self.current.as_mut_slice()
+    }
+
+    // The other row, side 1 of the viewer.
+    pub fn other(&self) -> &[u16] {
+        self.other.as_slice()
+    }
+
+    // Both rows become so many cells of an empty track, where power-on takes a track of so many.
+    #[tactic(auto, using(scan::proofs::Rows::within_most))]
+    pub fn blank(&mut self, size: usize, mfm: bool)
+        ensures taken { IsTrue (length_within size) → self.new.current.items ≡ replicate size (gap_of mfm) }
+        ensures other { IsTrue (length_within size) → self.new.other.items ≡ replicate size (gap_of mfm) }
+        ensures refused { (length_within size ≡ false) → self.new ≡ self.old }
+    {
+        if scan::length_within(size) {
+            self.current.clear();
+            self.other.clear();
+            resize(&mut self.current, size, gap(mfm));
+            resize(&mut self.other, size, gap(mfm));
+        }
+    }
+
+    // The places of so many cells of the current row from one on. One past its present length is an error of the script.
+    fn places(&self, place: u16, count: usize) -> Result<Range<usize>, BadLine>
+        requires { count ≤ 65535 }
+        ensures fits { IsOk result ↔ (place + count ≤ array_vec_len self.now.current) }
+        ensures places { IfOk result (λ r. (r.start ≡ place) × (r.end ≡ place + count)) }
+    {
+        let from = place as usize;
+        let to = from + count;
+        if self.current.len() < to {
+            return Err(BadLine);
+        }
+        Ok(from..to)
+    }
+
+    // Line K.
+    fn set_count(&mut self, count: u16) -> Result<(), BadLine>
+        ensures fits { IsOk result ↔ (count ≤ longest_row) }
+        ensures ok { OnOk result (self.new.current.items
+            ≡ take count self.old.current.items ++ replicate (count - array_vec_len self.old.current) 0) }
+        ensures err { OnErr result (self.new.current ≡ self.old.current) }
+        ensures other { self.new.other ≡ self.old.other }
+    {
+        let size = count as usize;
+        if LONGEST_ROW < size {
+            return Err(BadLine);
+        }
+        resize(&mut self.current, size, 0);
+        Ok(())
+    }
+
+    // Line F.
+    fn fill(&mut self, place: u16, count: u16, cell: u16) -> Result<(), BadLine>
+        ensures fits { IsOk result ↔ (place + count ≤ array_vec_len self.old.current) }
+        ensures ok { OnOk result (self.new.current.items ≡ row_with self.old.current.items place (replicate count cell)) }
+        ensures err { OnErr result (self.new.current ≡ self.old.current) }
+        ensures other { self.new.other ≡ self.old.other }
+    {
+        let places = self.places(place, count as usize)?;
+        self.current.as_mut_slice()[places].fill(cell);
+        Ok(())
+    }
+
+    // Line C.
+    fn set(&mut self, place: u16, cells: &[u16]) -> Result<(), BadLine>
+        requires { length cells.now ≤ 65535 }
+        ensures fits { IsOk result ↔ (place + length cells.now ≤ array_vec_len self.old.current) }
+        ensures ok { OnOk result (self.new.current.items ≡ row_with self.old.current.items place cells.now) }
+        ensures err { OnErr result (self.new.current ≡ self.old.current) }
+        ensures other { self.new.other ≡ self.old.other }
+    {
+        let places = self.places(place, cells.len())?;
+        self.current.as_mut_slice()[places].copy_from_slice(cells);
+        Ok(())
+    }
+
+    // Line V.
+    fn shown(&self, place: u16, count: u16) -> Result<&[u16], BadLine>
+        ensures fits { IsOk result ↔ (place + count ≤ array_vec_len self.now.current) }
+        ensures ok { IfOk result (λ shown. shown.now ≡ take count (drop place self.now.current.items)) }
+    {
+        let places = self.places(place, count as usize)?;
+        Ok(&self.current.as_slice()[places])
+    }
+
+    // A line that works the rows; what it shows of the current row.
+    pub fn carry_out(&mut self, task: Task, line: &Line) -> Result<&[u16], BadLine> {
+        match task {
+            Task::SetCount { count } => self.set_count(count)?,
+            Task::Fill { place, count, cell } => self.fill(place, count, cell)?,
+            Task::SetCells { place } => {
+                // It is asked for only by a line that names a cell.
+                let [_, cells @ ..] = line.numbers.as_slice() else {
+                    return Err(BadLine);
+                };
+                self.set(place, cells)?;
+            }
+            Task::Show { place, count } => return self.shown(place, count),
+            Task::Swap => mem::swap(&mut self.current, &mut self.other),
+        }
+        Ok(&[])
+    }
 }

@@ -1,131 +1,68 @@
-// A session: the rows and the drive lines, and what each line of the script comes to.
-ghost use Rattle.std.specs.Prelude.{◌≤◌};
-ghost use Rattle.bench.specs.Rows.{RowsFit};
-
-use crate::calls::Answered;
+// A session: the controller and the rows, and what each line of the script comes to.
+use crate::answers::Answer;
+use crate::calls::Controller;
+use crate::failures::Failure;
 use crate::output::Outgoing;
-use crate::rows::{Cells, Rows};
-use crate::{answers, calls, rows, tasks, views};
-use registers::Lines;
-use scan::SHORTEST_ROW;
-use script::{Line, Request, Task};
+use crate::rows::Rows;
+use crate::views::{Cells, View};
+use script::{Line, Request};
+use std::io;
+use std::io::Write;
 
-// The rows, the drive lines, how many bytes of output wait, and whether the last line could not be carried out.
-#[derive(Clone, Copy)]
+#[derive(Drop)]
 pub struct Session {
-    pub rows: Rows,
-    pub lines: Lines,
-    pub waiting: u16,
-    pub failed: bool,
+    controller: Controller,
+    rows: Rows,
 }
 
-// Before the first line: two shortest rows, and all drive lines off.
-pub fn start() -> Session
-    ensures { RowsFit result.rows }
-{
-    Session {
-        rows: Rows {
-            at: 0,
-            current: SHORTEST_ROW,
-            other: SHORTEST_ROW,
-        },
-        lines: calls::lines_of(0),
-        waiting: 0,
-        failed: false,
-    }
-}
-
-// A line that works the rows.
-fn work_rows(
-    session: Session,
-    line: Line,
-    task: Task,
-    cells: &mut Cells,
-    out: &mut Outgoing,
-) -> Session
-    requires { RowsFit session.rows × (line.count ≤ 65) }
-    ensures { RowsFit result.rows }
-{
-    let worked = tasks::carry_out(session.rows, line, task, cells);
-    let rows = worked.rows;
-    let lines = session.lines;
-    Session {
-        rows,
-        lines,
-        waiting: tasks::print(out, session.waiting, line.letter, worked, cells),
-        failed: worked.failed,
-    }
-}
-
-// What a line asks else than of the controller: line P blanks the rows, line N sets the drive lines, and those that work or
-// show the rows print.
-pub fn carry_out(
-    session: Session,
-    line: Line,
-    request: Request,
-    cells: &mut Cells,
-    out: &mut Outgoing,
-) -> Session
-    requires { RowsFit session.rows × (line.count ≤ 65) }
-    ensures { RowsFit result.rows }
-{
-    let rows = session.rows;
-    let mut next = session;
-    match request {
-        Request::PowerOn { mfm, length, .. } => {
-            let blank = rows::blank(rows, length as usize, mfm, cells);
-            next.rows = blank;
-            return next;
-        }
-        Request::SetLines { bits } => {
-            let lines = calls::lines_of(bits);
-            next.lines = lines;
-            return next;
-        }
-        Request::Rows(task) => {
-            return work_rows(session, line, task, cells, out);
-        }
-        Request::View { mfm, track, sector } => {
-            next.waiting = views::print(out, session.waiting, rows, cells, mfm, track, sector);
-            return next;
-        }
-        Request::Bad => {
-            next.failed = true;
-            return next;
-        }
-        _ => {
-            return session;
+impl Session {
+    pub fn start() -> Session {
+        Session {
+            controller: Controller::start(),
+            rows: Rows::start(),
         }
     }
-}
 
-// What the controller says to a line that worked it or its drive lines, and nothing to any other.
-pub fn tell(
-    session: Session,
-    line: Line,
-    request: Request,
-    answered: Answered,
-    out: &mut Outgoing,
-) -> Session
-    requires { RowsFit session.rows }
-    ensures { RowsFit result.rows }
-{
-    match request {
-        Request::PowerOn { .. } | Request::SetLines { .. } | Request::Controller(_) => {
-            let answer = answered.answer;
-            let mut next = session;
-            next.waiting = answers::print(
-                out,
-                session.waiting,
-                line.letter,
-                answer,
-                answered.machine,
-                session.lines,
-            );
-            return next;
+    // What the controller says to a line that worked it or its drive lines.
+    fn tell(&self, letter: char, answer: Answer, out: &mut Outgoing) -> io::Result<()> {
+        let state = self.controller.state();
+        writeln!(out, "{letter}{answer}{state}")
+    }
+
+    // Carries out a line, and prints its letter and what it comes to.
+    pub fn carry_out(&mut self, line: &Line, out: &mut Outgoing) -> Result<(), Failure> {
+        let request = script::request_of(line)?;
+        let (Some(letter), Some(request)) = (line.letter, request) else {
+            return Ok(());
+        };
+        let letter = char::from(letter);
+        match request {
+            Request::PowerOn {
+                mfm,
+                length,
+                wd1797,
+            } => {
+                let answer = self.controller.power_on(mfm, length, wd1797);
+                self.rows.blank(length as usize, mfm);
+                self.tell(letter, answer, out)?;
+            }
+            Request::SetLines { bits } => {
+                self.controller.set_lines(bits);
+                self.tell(letter, Answer::Nothing, out)?;
+            }
+            Request::Controller(call) => {
+                let answer = self.controller.carry_out(call, self.rows.current_mut());
+                self.tell(letter, answer, out)?;
+            }
+            Request::Rows(task) => {
+                let shown = Cells(self.rows.carry_out(task, line)?);
+                writeln!(out, "{letter}{shown}")?;
+            }
+            Request::View { mfm, track, sector } => {
+                let view = View::of(&self.rows, mfm, track, sector);
+                writeln!(out, "{letter}{view}")?;
+            }
         }
-        _ => {
-            return session;
-        }
+        Ok(())
     }
 }

@@ -1,55 +1,44 @@
-// What the viewer says of the two rows.
-ghost use Rattle.std.specs.Prelude.{◌≤◌, length};
-ghost use Rattle.scan.specs.Rows.{longest_row};
-ghost use Rattle.bench.specs.Rows.{Room, RowsFit};
+// Cells of a row, and what the viewer says of the two rows.
+use crate::rows::Rows;
+use std::fmt;
+use std::fmt::{Display, Formatter};
 
-use crate::output;
-use crate::output::Outgoing;
-use crate::rows::{ROOM, Rows};
+// Cells as a line prints them, four digits each.
+#[derive(Clone, Copy)]
+pub struct Cells<'a>(pub &'a [u16]);
 
-// The letter, the viewer's number, how many cells its part has, and the cells.
-fn put_view<'a>(
-    out: &mut Outgoing,
-    waiting: u16,
-    side0: &'a [u16],
-    side1: &'a [u16],
-    mfm: bool,
-    track: u8,
-    sector: u8,
-) -> u16
-    requires { (length side0.now ≤ longest_row) × (length side1.now ≤ longest_row) }
-{
-    let number = viewer::number(side0, side1, mfm, track, sector);
-    let part = viewer::view(side0, side1, mfm, track, sector);
-    let first = output::put(out, waiting, b'Q');
-    let second = output::put_number(out, first, 2, number as u16);
-    let third = output::put_number(out, second, 4, part.len() as u16);
-    output::put_cells(out, third, part, 0, part.len())
+impl Display for Cells<'_> {
+    fn fmt<W: fmt::Write>(&self, f: &mut Formatter<W>) -> fmt::Result {
+        for cell in self.0 {
+            write!(f, " {cell:04X}")?;
+        }
+        Ok(())
+    }
 }
 
-// Line Q: side 0 is the current row.
-pub fn print(
-    out: &mut Outgoing,
-    waiting: u16,
-    rows: Rows,
-    cells: &[u16],
-    mfm: bool,
-    track: u8,
-    sector: u8,
-) -> u16
-    requires { RowsFit rows × Room cells.now }
-{
-    let from0 = rows.at;
-    let to0 = from0 + rows.current;
-    let from1 = ROOM - rows.at;
-    let to1 = from1 + rows.other;
-    put_view(
-        out,
-        waiting,
-        &cells[from0..to0],
-        &cells[from1..to1],
-        mfm,
-        track,
-        sector,
-    )
+// What the viewer gives: its number, and the part of a side.
+#[derive(Clone, Copy)]
+pub struct View<'a> {
+    number: u8,
+    part: &'a [u16],
+}
+
+impl View<'_> {
+    // Line Q: side 0 is the current row.
+    pub fn of(rows: &Rows, mfm: bool, track: u8, sector: u8) -> View<'_> {
+        let (side0, side1) = (rows.current(), rows.other());
+        View {
+            number: viewer::number(side0, side1, mfm, track, sector),
+            part: viewer::view(side0, side1, mfm, track, sector),
+        }
+    }
+}
+
+// The number, how many cells the part has, and the cells.
+impl Display for View<'_> {
+    fn fmt<W: fmt::Write>(&self, f: &mut Formatter<W>) -> fmt::Result {
+        let number = self.number;
+        let size = self.part.len();
+        write!(f, " {number:02X} {size:04X}{}", Cells(self.part))
+    }
 }

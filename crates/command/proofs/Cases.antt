@@ -11,7 +11,7 @@ use Rattle.command.specs.Commands.{decoded_by_both, decoded_with_u, decoded_of, 
 use Rattle.command.specs.Sizes.{size_of, field_size}
 use Rattle.command.specs.declared.Chip.{Chip}
 use Rattle.command.specs.declared.Chip.TheVariants.{Wd1793, Wd1797}
-use Rattle.command.specs.declared.Decoded.TheVariants.{NoCommand}
+use Rattle.std.specs.Prelude.{None}
 use Rattle.common.proofs.Arms.{count, range_but}
 
 -- 80, C4 are accepted; 9F, C3 are refused with 7: on both chips
@@ -54,7 +54,7 @@ refused_bytes_lem Wd1797 = (refl, refl)
 
 -- a byte of the list, and any other byte
 pub listed_refused :
-    (chip : Chip) {byte : ℕ} → byte < 256 → has_key (refused_bytes chip) byte ≡ true → NoCommand ≡ decoded_of chip byte
+    (chip : Chip) {byte : ℕ} → byte < 256 → has_key (refused_bytes chip) byte ≡ true → None ≡ decoded_of chip byte
 unfolding decoded_of decoded_by_both decoded_with_u
 listed_refused Wd1793 low e = range_but (decoded_of Wd1793) (λ k. not (has_key (refused_bytes Wd1793) k)) 0 256 refl zero-le low (ap not e)
 listed_refused Wd1797 low e = range_but (decoded_of Wd1797) (λ k. not (has_key (refused_bytes Wd1797) k)) 0 256 refl zero-le low (ap not e)

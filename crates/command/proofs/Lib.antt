@@ -1,5 +1,4 @@
 -- Laws that the functions' proofs cite, and the cases that are proved.
-pub mod Arms
 pub mod Cases
 pub mod StepTimes
 pub mod Tables

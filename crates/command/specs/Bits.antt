@@ -1,14 +1,14 @@
 -- What the bits of a command byte ask for: document 01, "Registers and commands", and document 02, i. All but the decoding of a
 -- byte and its rate code stands here: no other definition that code follows looks at bits. (The demands say the bits anew.) Assumes
 -- nothing.
-use Rattle.std.specs.Prelude.{ℕ, Bool, true, false, cond}
+use Rattle.std.specs.Prelude.{ℕ, Bool, true, false, cond, Option, Some, None}
 use Rattle.common.specs.Bits.{bit_of}
 use Rattle.scan.specs.declared.DataMark.{DataMark}
 use Rattle.scan.specs.declared.DataMark.TheVariants.{Fb, F8}
 use Rattle.command.specs.declared.Chip.{Chip}
 use Rattle.command.specs.declared.Chip.TheVariants.{Wd1793, Wd1797}
-use Rattle.command.specs.declared.SideAsked.{SideAsked}
-use Rattle.command.specs.declared.SideAsked.TheVariants.{Any, Only}
+use Rattle.command.specs.declared.bits.Flag.{Flag}
+use Rattle.command.specs.declared.bits.Flag.TheVariants.{Update, Head, Verify, Multiple, Side, Settle, Compare, Mark, Lengths, Select, AtOnce, AtIndex, AtNotReady, AtReady}
 
 -- ---- Type I
 
@@ -44,9 +44,9 @@ unfoldable pub side_of : Bool → ℕ
 side_of flag = cond flag 1 0
 
 -- "On the 1793 C asks that the ID's side equal S."; on the 1797 "for Type II the ID's side must equal U"
-unfoldable pub side_asked : Chip → ℕ → SideAsked
-side_asked Wd1793 byte = cond (bit_of byte 1) (Only (side_of (bit_of byte 3))) Any
-side_asked Wd1797 byte = Only (side_of (bit_of byte 1))
+unfoldable pub side_asked : Chip → ℕ → Option ℕ
+side_asked Wd1793 byte = cond (bit_of byte 1) (Some (side_of (bit_of byte 3))) None
+side_asked Wd1797 byte = Some (side_of (bit_of byte 1))
 
 -- "With L 1 the length codes are as before", which are IBM's (000: "For IBM compatibility, the 'b' flag should be set to a one")
 unfoldable pub ibm_lengths : Chip → ℕ → Bool
@@ -71,3 +71,21 @@ forces_at_not_ready byte = bit_of byte 1
 
 abbrev pub forces_at_ready : ℕ → Bool
 forces_at_ready byte = bit_of byte 0
+
+-- ---- whether a flag is on: S and C, and L and U, mean something on one chip only
+
+abbrev pub flag_of : ℕ → Flag → Bool
+flag_of byte Update = updates_track byte
+flag_of byte Head = loads_head byte
+flag_of byte Verify = verifies_track byte
+flag_of byte Multiple = is_multiple byte
+flag_of byte Side = bit_of byte 3
+flag_of byte Settle = settles_first byte
+flag_of byte Compare = bit_of byte 1
+flag_of byte Mark = bit_of byte 0
+flag_of byte Lengths = bit_of byte 3
+flag_of byte Select = bit_of byte 1
+flag_of byte AtOnce = forces_at_once byte
+flag_of byte AtIndex = forces_at_index byte
+flag_of byte AtNotReady = forces_at_not_ready byte
+flag_of byte AtReady = forces_at_ready byte

@@ -32,13 +32,6 @@ pub enum Command {
     ForceInterrupt,
 }
 
-// What a byte loaded into the command register is.
-#[derive(Clone, Copy)]
-pub enum Decoded {
-    Taken(Command),
-    NoCommand,
-}
-
 // How the controller takes a command up: it steps until a track is reached, steps once, loads the head and works there,
 // or ends what is under way.
 #[derive(Clone, Copy)]
@@ -60,76 +53,59 @@ pub enum Job {
     WriteTrack,
 }
 
-// The side that an ID must have to match.
-#[derive(Clone, Copy)]
-pub enum SideAsked {
-    Any,
-    Only(u8),
-}
-
 // The command under way, its byte, whose bits `bits` reads, and the direction of its one step; and for Type II the side that an ID
-// must have, and whether its length codes are IBM's. These two are the chip's reading of the byte, so that who has the order need
-// not ask which chip it is.
+// must have, where one is asked, and whether its length codes are IBM's. These two are the chip's reading of the byte, so that who
+// has the order need not ask which chip it is.
 #[derive(Clone, Copy)]
 pub struct Order {
     pub command: Command,
     pub byte: u8,
     pub inward: bool,
-    pub side: SideAsked,
+    pub side: Option<u8>,
     pub ibm: bool,
 }
 
 // The commands of Type III with the flag U, which the WD1797 alone takes.
 #[tactic(auto, unfolding(crate::specs::Commands::decoded_with_u))]
-fn decode_with_u(chip: Chip, byte: u8) -> Decoded
+fn decode_with_u(chip: Chip, byte: u8) -> Option<Command>
     ensures { result ≡ decoded_with_u chip byte }
 {
     match chip {
-        Chip::Wd1793 => Decoded::NoCommand,
+        Chip::Wd1793 => None,
         Chip::Wd1797 => match byte {
-            0xC2 | 0xC6 => Decoded::Taken(Command::ReadAddress),
-            0xF2 | 0xF6 => Decoded::Taken(Command::WriteTrack),
-            _ => Decoded::NoCommand,
+            0xC2 | 0xC6 => Some(Command::ReadAddress),
+            0xF2 | 0xF6 => Some(Command::WriteTrack),
+            _ => None,
         },
     }
 }
 
 // The commands that both chips take. Read Sector has no data mark to choose, so its bit 0 must be off.
 #[tactic(auto, unfolding(crate::specs::Commands::decoded_by_both))]
-fn decode_by_both(byte: u8) -> Decoded
+fn decode_by_both(byte: u8) -> Option<Command>
     ensures { result ≡ decoded_by_both byte }
 {
     match byte {
-        0x00..=0x0F => Decoded::Taken(Command::Restore),
-        0x10..=0x1F => Decoded::Taken(Command::Seek),
-        0x20..=0x3F => Decoded::Taken(Command::Step),
-        0x40..=0x5F => Decoded::Taken(Command::StepIn),
-        0x60..=0x7F => Decoded::Taken(Command::StepOut),
-        0x80..=0x9F => {
-            if byte % 2 == 0 {
-                Decoded::Taken(Command::ReadSector)
-            } else {
-                Decoded::NoCommand
-            }
-        }
-        0xA0..=0xBF => Decoded::Taken(Command::WriteSector),
-        0xC0 | 0xC4 => Decoded::Taken(Command::ReadAddress),
-        0xF0 | 0xF4 => Decoded::Taken(Command::WriteTrack),
-        0xD0..=0xDF => Decoded::Taken(Command::ForceInterrupt),
-        _ => Decoded::NoCommand,
+        0x00..=0x0F => Some(Command::Restore),
+        0x10..=0x1F => Some(Command::Seek),
+        0x20..=0x3F => Some(Command::Step),
+        0x40..=0x5F => Some(Command::StepIn),
+        0x60..=0x7F => Some(Command::StepOut),
+        0x80..=0x9F if byte % 2 == 0 => Some(Command::ReadSector),
+        0xA0..=0xBF => Some(Command::WriteSector),
+        0xC0 | 0xC4 => Some(Command::ReadAddress),
+        0xF0 | 0xF4 => Some(Command::WriteTrack),
+        0xD0..=0xDF => Some(Command::ForceInterrupt),
+        _ => None,
     }
 }
 
-// The command that a byte is on a chip.
+// The command that a byte is on a chip, if it is one.
 #[tactic(auto, unfolding(crate::specs::Commands::decoded_of))]
-pub fn decode(chip: Chip, byte: u8) -> Decoded
+pub fn decode(chip: Chip, byte: u8) -> Option<Command>
     ensures { result ≡ decoded_of chip byte }
 {
-    let decoded = decode_by_both(byte);
-    match decoded {
-        Decoded::Taken(command) => Decoded::Taken(command),
-        Decoded::NoCommand => decode_with_u(chip, byte),
-    }
+    decode_by_both(byte).or_else(|| decode_with_u(chip, byte))
 }
 
 // How a command is taken up.
@@ -167,10 +143,7 @@ pub fn job_of(command: Command) -> Job
 pub fn is_restore(command: Command) -> bool
     ensures { result ≡ is_restore command }
 {
-    match command {
-        Command::Restore => true,
-        _ => false,
-    }
+    matches!(command, Command::Restore)
 }
 
 // The direction of a command's step, from that of the last one.

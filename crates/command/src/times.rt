@@ -15,8 +15,7 @@ const STEP_TIMES: [[u16; 4]; 2] = [[94, 188, 313, SETTLING_FM], [188, 375, 625, 
 pub fn step_time(mfm: bool, byte: u8) -> u16
     ensures { result ≡ step_time_of mfm byte }
 {
-    let row = STEP_TIMES[mfm as usize];
-    row[(byte % 4) as usize]
+    STEP_TIMES[mfm as usize][(byte % 4) as usize]
 }
 
 // The byte times that the head settles.

@@ -3,3 +3,4 @@ pub mod Xor
 pub mod Linear
 pub mod Laws
 pub mod Cases
+pub mod Words

@@ -7,20 +7,21 @@ ghost use Rattle.crc.specs.Table.{word};
 
 mod table;
 
-use table::four;
+use table::WORDS;
 
 // The table's word for a byte.
+#[tactic(auto, using(crate::proofs::Words::table_word))]
 fn word_of(byte: u16) -> u16
     requires { byte < 256 }
     ensures { result ≡ word byte }
 {
-    ((four(byte / 4) >> byte % 4 * 16) % 65536) as u16
+    WORDS[byte as usize]
 }
 
 // The register after one byte more. The low half passes through the eight bits untouched, so it joins after the table.
+#[tactic(auto, using(crate::proofs::Linear::by_word))]
 pub fn step(crc: u16, byte: u8) -> u16
     ensures { result ≡ crc_byte crc byte }
 {
-    let high = crc / 256 ^ byte as u16;
-    word_of(high) ^ crc % 256 * 256
+    word_of(crc / 256 ^ byte as u16) ^ crc % 256 * 256
 }

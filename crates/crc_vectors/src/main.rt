@@ -1,115 +1,91 @@
 // Prints the CRC register over the fields of docs/VECTORS.md, a line each.
 #![tactic(auto)]
 
-ghost use Rattle.std.specs.Prelude.{◌≡◌, ◌≤◌, length};
+ghost use Rattle.std.specs.Prelude.{◌≡◌};
 ghost use Rattle.crc.specs.Crc.{preset, crc_over};
 
 use std::io;
 use std::io::Stdout;
 
+// No field has more bytes.
+const LONGEST: usize = 1024;
+
 // The register after a field, from FFFF.
-#[tactic(auto, unfolding(crc::specs::Crc::crc_over))]
 fn register(field: &[u8]) -> u16
     ensures { result ≡ crc_over preset field.now }
 {
-    let mut crc = 0xFFFF;
-    let mut i = 0;
-    while i < field.len() {
-        crc = crc::step(crc, field[i]);
-        i += 1;
-    }
-    crc
+    field.iter().fold(0xFFFF, |crc, &byte| crc::step(crc, byte))
 }
 
 // A field's length and register.
 fn print(out: Stdout, field: &[u8]) -> io::Result<()> {
-    let size = text::hex((field.len() % 65536) as u16);
-    let crc = text::hex(register(field));
-    let line = [
-        size[0], size[1], size[2], size[3], b' ', crc[0], crc[1], crc[2], crc[3], b'\n',
-    ];
-    out.write_all(&line)
+    println!(out; "{:04X} {:04X}", field.len(), register(field))
 }
 
 fn print_single_bytes(out: Stdout) -> io::Result<()> {
-    for b in 0..256u16 {
-        let field = [(b % 256) as u8];
-        print(out, &field)?;
+    for byte in 0..=255 {
+        print(out, &[byte])?;
     }
     Ok(())
 }
 
 // Document 01, Cases, and the last of them with its own CRC.
 fn print_cases(out: Stdout) -> io::Result<()> {
-    print(out, &[0xFE])?;
-    print(out, &[0xFB])?;
-    print(out, &[0xF8])?;
-    print(out, &[0xA1, 0xA1, 0xA1])?;
-    print(out, &[0xA1, 0xA1, 0xA1, 0xFE])?;
-    print(out, &[0xFE, 0x00, 0x00, 0x01, 0x00])?;
-    print(out, &[0xFE, 0x00, 0x00, 0x01, 0x00, 0xD2, 0xC3])
-}
-
-// The bytes 00 to FF over and over, as many as there is room.
-fn print_counted(out: Stdout, field: &mut [u8]) -> io::Result<()> {
-    let mut i = 0;
-    while i < field.len() {
-        field[i] = (i % 256) as u8;
-        i += 1;
+    let cases: [&[u8]; 7] = [
+        &[0xFE],
+        &[0xFB],
+        &[0xF8],
+        &[0xA1, 0xA1, 0xA1],
+        &[0xA1, 0xA1, 0xA1, 0xFE],
+        &[0xFE, 0x00, 0x00, 0x01, 0x00],
+        &[0xFE, 0x00, 0x00, 0x01, 0x00, 0xD2, 0xC3],
+    ];
+    for field in cases {
+        print(out, field)?;
     }
-    print(out, field)
+    Ok(())
 }
 
+// All 00, all FF, and the bytes 00 to FF over and over.
 fn print_longest(out: Stdout) -> io::Result<()> {
-    print(out, &[0x00; 1024])?;
-    print(out, &[0xFF; 1024])?;
-    let mut field = [0u8; 1024];
-    print_counted(out, &mut field)
-}
-
-// The next number of the rule, of which a draw is the high byte.
-fn drawn(x: u32) -> u32 {
-    (x % 65536 * 25173 + 13849) % 65536
-}
-
-fn high(x: u32) -> u8 {
-    (x / 256 % 256) as u8
-}
-
-// Draws the first n bytes of a field, and hands back the rule's number.
-fn fill(field: &mut [u8], n: usize, x: u32) -> u32
-    requires { n ≤ length field.old }
-{
-    let mut y = x;
-    let mut i = 0;
-    while i < n {
-        y = drawn(y);
-        field[i] = high(y);
-        i += 1;
+    print(out, &[0x00; LONGEST])?;
+    print(out, &[0xFF; LONGEST])?;
+    let mut field = [0; LONGEST];
+    for (i, byte) in field.iter_mut().enumerate() {
+        *byte = (i % 256) as u8;
     }
-    y
+    print(out, &field)
 }
 
-// One field made by the rule, in room for the longest.
-fn print_drawn(out: Stdout, field: &mut [u8], x: u32) -> io::Result<u32>
-    requires { 1024 ≤ length field.old }
-{
-    let a = drawn(x);
-    let b = drawn(a);
-    let n = (high(a) as usize * 256 + high(b) as usize) % 1025;
-    let y = fill(field, n, b);
-    print(out, &field[..n])?;
-    Ok(y)
+// The number of the rule that makes fields.
+#[derive(Drop)]
+struct Rule {
+    number: u16,
 }
 
-fn print_all_drawn(out: Stdout, field: &mut [u8]) -> io::Result<()>
-    requires { 1024 ≤ length field.old }
-{
-    let mut x = 1;
-    let mut left: u8 = 128;
-    while 0 < left {
-        x = print_drawn(out, field, x)?;
-        left -= 1;
+impl Rule {
+    // The high byte of the next number.
+    fn draw(&mut self) -> u8 {
+        self.number = self.number.wrapping_mul(25173).wrapping_add(13849);
+        (self.number / 256) as u8
+    }
+
+    // Draws a field's length, and then its bytes.
+    fn print_field(&mut self, out: Stdout) -> io::Result<()> {
+        let length = u16::from_be_bytes([self.draw(), self.draw()]) as usize % (LONGEST + 1);
+        let mut room = [0; LONGEST];
+        let field = &mut room[..length];
+        for byte in field.iter_mut() {
+            *byte = self.draw();
+        }
+        print(out, field)
+    }
+}
+
+fn print_drawn(out: Stdout) -> io::Result<()> {
+    let mut rule = Rule { number: 1 };
+    for _ in 0..128 {
+        rule.print_field(out)?;
     }
     Ok(())
 }
@@ -120,6 +96,5 @@ fn main(rt: HostRuntime) -> io::Result<()> {
     print_single_bytes(out)?;
     print_cases(out)?;
     print_longest(out)?;
-    let mut field = [0u8; 1024];
-    print_all_drawn(out, &mut field)
+    print_drawn(out)
 }

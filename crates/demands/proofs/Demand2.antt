@@ -13,11 +13,10 @@ use Rattle.command.specs.declared.Chip.TheVariants.{Wd1793, Wd1797}
 use Rattle.command.specs.Bits.{is_multiple, settles_first, side_of, side_asked, ibm_lengths, mark_written}
 use Rattle.command.specs.Commands.{class_of, decoded_of}
 use Rattle.command.specs.declared.Command.TheVariants.{ReadSector, WriteSector}
-use Rattle.command.specs.declared.Decoded.TheVariants.{Taken}
-use Rattle.command.specs.declared.SideAsked.TheVariants.{Any, Only}
+use Rattle.std.specs.Prelude.{Some, None}
 use Rattle.registers.specs.declared.Flags.{Flags}
 use Rattle.wd.specs.declared.Machine.{Machine}
-use Rattle.wd.specs.declared.Started.{Started}
+use Rattle.wd.specs.declared.Called.{Called}
 use Rattle.wd.specs.Machines.{fresh_machine, power_on}
 use Rattle.wd.specs.Loads.{load_register}
 use Rattle.reachable.proofs.Valid.{Valid}
@@ -46,6 +45,8 @@ use Rattle.uses.proofs.Multiples.{multiple_read, over_at_broken}
 use Rattle.uses.proofs.ShownMarks.{read_shows_mark}
 use Rattle.uses.proofs.Sessions.{waits, begun_is, writer_alone, write_ends, wrote_is, asked_is, resumed_is, reader_alone, read_ends, got_is}
 use Rattle.demands.specs.Demands.{ReadBackAsked, ReadBack, Demand2}
+use Rattle.refusals.specs.Numbers.{done}
+use Rattle.refusals.proofs.Outcomes.{refused-done}
 
 -- bit 0 of the byte says which mark is written
 mark_bit : (b : ℕ) → is_deleted (mark_written b) ≡ bit_of b 0
@@ -59,8 +60,8 @@ mark_bit b = by (bit_of b 0)
 -- two bytes with the same flags ask a chip for the same side and the same length codes
 same_sides : (chip : Chip) (b b' : ℕ) → bit_of b' 1 ≡ bit_of b 1 → bit_of b' 3 ≡ bit_of b 3 → side_asked chip b' ≡ side_asked chip b
 unfolding side_asked side_of
-same_sides Wd1793 b b' one three = λ i. cond (one i) (Only (cond (three i) 1 0)) Any
-same_sides Wd1797 b b' one three = λ i. Only (cond (one i) 1 0)
+same_sides Wd1793 b b' one three = λ i. cond (one i) (Some (cond (three i) 1 0)) None
+same_sides Wd1797 b b' one three = λ i. Some (cond (one i) 1 0)
 
 same_lengths : (chip : Chip) (b b' : ℕ) → bit_of b' 3 ≡ bit_of b 3 → ibm_lengths chip b' ≡ ibm_lengths chip b
 unfolding ibm_lengths
@@ -71,10 +72,10 @@ module _ (t : WriteThenRead) (p : ℕ) (a : ReadBackAsked t p) where
   abbrev s : Session
   s = session_of t
 
-  is_write : decoded_of t.write.machine.chip t.write.byte ≡ Taken WriteSector
+  is_write : decoded_of t.write.machine.chip t.write.byte ≡ Some WriteSector
   is_write = decodes_write t.write.machine.chip t.write.byte a.writes
 
-  is_read : decoded_of t.read.machine.chip t.read.byte ≡ Taken ReadSector
+  is_read : decoded_of t.read.machine.chip t.read.byte ≡ Some ReadSector
   is_read = decodes_read t.read.machine.chip t.read.byte a.reads
 
   ends : EndsAt s.writer (begun s) s.written
@@ -134,7 +135,7 @@ module _ (t : WriteThenRead) (p : ℕ) (a : ReadBackAsked t p) where
             ap (λ (chip : Chip). ibm_lengths chip t.read.byte) same_chip
             ∙ same_lengths _ _ _ (a.same_flags 3 (omega arith) (omega arith));
         accepted_then =
-            ap (λ (d : Desk). (load_register d.machine t.read.lines 0 t.read.byte).number) (asked_is t) ∙ taken t.read;
+            ap (λ (d : Desk). (load_register d.machine t.read.lines 0 t.read.byte).outcome) (asked_is t) ∙ taken t.read;
         ready_then = a.ready_then;
         alone = reader_alone t s.read;
         ends_then = read_ends t ReadSector is_read (λ e. never (cc));
@@ -221,12 +222,12 @@ module _ (t : WriteThenRead) (p : ℕ) (a : ReadBackAsked t p) where
       }
 
 -- what a power-on that is done gives
-powered_on : (size : ℕ) (mfm : Bool) (chip : Chip) (r : Started)
-    → PowerOnCall size mfm chip r → r.number ≡ 0 → PoweredOn size mfm chip r.machine
+powered_on : (size : ℕ) (mfm : Bool) (chip : Chip) (r : Called)
+    → PowerOnCall size mfm chip r → r.outcome ≡ done → PoweredOn size mfm chip r.machine
 unfolding power_on fresh_machine
-powered_on size mfm chip r call done =
-    subst (λ (q : Started). q.number ≡ 0 → PoweredOn size mfm chip q.machine) (sym call.told)
-    (by_cond (λ (q : Started). q.number ≡ 0 → PoweredOn size mfm chip q.machine) (length_within size)
+powered_on size mfm chip r call accepted =
+    subst (λ (q : Called). q.outcome ≡ done → PoweredOn size mfm chip q.machine) (sym call.told)
+    (by_cond (λ (q : Called). q.outcome ≡ done → PoweredOn size mfm chip q.machine) (length_within size)
     (λ fits e.
     record {
       ring = refl;
@@ -240,8 +241,8 @@ powered_on size mfm chip r call done =
       wires = refl;
       type1 = refl;
     })
-    (λ out e. absurd (omega arith)))
-    done
+    (λ out e. absurd (refused-done _ e)))
+    accepted
 
 -- "Exact"
 pub demand_2 : Demand2

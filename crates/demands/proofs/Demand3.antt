@@ -15,7 +15,7 @@ use Rattle.command.specs.declared.Command.TheVariants.{ReadSector}
 use Rattle.activity.specs.Limits.{busy_in}
 use Rattle.registers.specs.declared.Lines.{Lines}
 use Rattle.wd.specs.declared.Machine.{Machine}
-use Rattle.wd.specs.declared.Loaded.{Loaded}
+use Rattle.wd.specs.declared.Called.{Called}
 use Rattle.wd.specs.declared.Read.{Read}
 use Rattle.wd.specs.declared.Passed.{Passed}
 use Rattle.wd.specs.Reads.{read_register}
@@ -42,6 +42,8 @@ use Rattle.uses.proofs.Endings.{taken, since_loaded, ends_there, at_end}
 use Rattle.uses.proofs.Decoding.{decodes_read}
 use Rattle.demands.specs.Demands.{ReadAsked, ReadEnds, Demand3}
 use Rattle.demands.proofs.Demand1.{demand_1}
+use Rattle.refusals.specs.Numbers.{done}
+use Rattle.refusals.proofs.Outcomes.{number_done}
 
 -- ---- which IDs there are does not depend on what the host does
 
@@ -185,14 +187,14 @@ module _ (c : Accepted) (asked : ReadAsked c) where
         ap length row_there
         ∙ asked.whole
         ∙ sym (load_fixed c.machine c.lines 0 c.byte).length
-        ∙ ap (λ (q : Loaded). q.machine.ring.length) (sym c.call.told)
+        ∙ ap (λ (q : Called). q.machine.ring.length) (sym c.call.told)
         ∙ sym (host_fixed host (since c) (passed u)).length
         ∙ sym (ap (λ (m : Machine). m.ring.length) (calls_bus _ (host.calls (passed u)) (still_quiet (passed u))))
         ∙ ap (λ (d : Desk). d.machine.ring.length) (due_is u)
 
-    not_refused : (l : Lines) (r : Passed) (row : List ℕ) → ByteTimeCall e.machine l e.row r row → r.number ≡ 0
+    not_refused : (l : Lines) (r : Passed) (row : List ℕ) → ByteTimeCall e.machine l e.row r row → r.outcome ≡ done
     not_refused l r row call =
-        (demand_1.byte_time_call e.machine l e.row r row call).given.done.1 (λ t turn. no_turn t turn)
+        number_done _ ((demand_1.byte_time_call e.machine l e.row r row call).given.done.1 (λ t turn. no_turn t turn))
       where
         no_turn : (t : ℕ) → AtByteTime e.machine e.row t → ⊥
         no_turn t (byte_time_2 bad) = refusals.valid e.machine valid bad

@@ -10,7 +10,7 @@ use Rattle.command.specs.Commands.{class_of, decoded_by_both, decoded_with_u, de
 use Rattle.command.specs.declared.Command.{Command}
 use Rattle.command.specs.declared.Command.TheVariants.{ReadSector, WriteSector, ReadAddress, WriteTrack}
 use Rattle.command.specs.declared.Class.TheVariants.{Works}
-use Rattle.command.specs.declared.Decoded.TheVariants.{Taken}
+use Rattle.std.specs.Prelude.{Some}
 use Rattle.registers.specs.declared.Lines.{Lines}
 use Rattle.registers.specs.declared.Flags.{Flags}
 use Rattle.wd.specs.declared.Machine.{Machine}
@@ -39,7 +39,7 @@ use Rattle.uses.proofs.Sessions.{silent_quiet}
 use Rattle.uses.proofs.Decoding.{reads_sector, writes_sector}
 use Rattle.demands.specs.Demands.{LostExactly, March}
 
-module _ (c : Accepted) (command : Command) (is : decoded_of c.machine.chip c.byte ≡ Taken command) (works : class_of command ≡ Works)
+module _ (c : Accepted) (command : Command) (is : decoded_of c.machine.chip c.byte ≡ Some command) (works : class_of command ≡ Works)
     {e : Desk} (u : Use (since c) e) (alone : throughout no_command u ≡ true) where
   abbrev host : Host
   host = host_of u silent
@@ -136,7 +136,7 @@ write_works write_sector = refl
 write_works write_track = refl
 
 -- a byte is one of them by document 01's list
-read_bytes : (chip : Chip) (b : ℕ) → ReadByte chip b → (command : Command) × (decoded_of chip b ≡ Taken command) × ReadCommand command
+read_bytes : (chip : Chip) (b : ℕ) → ReadByte chip b → (command : Command) × (decoded_of chip b ≡ Some command) × ReadCommand command
 unfolding decoded_of decoded_by_both decoded_with_u
 read_bytes chip b (courses.read_sector first last even) = (ReadSector, reads_sector chip b first last even, read_sector)
 read_bytes chip b (courses.read_address (inl e)) = (ReadAddress, ap (decoded_of chip) e, read_address)
@@ -144,7 +144,7 @@ read_bytes chip b (courses.read_address (inr e)) = (ReadAddress, ap (decoded_of 
 read_bytes chip b (courses.read_address_with_u is (inl e)) = (ReadAddress, (λ i. decoded_of (is i) (e i)), read_address)
 read_bytes chip b (courses.read_address_with_u is (inr e)) = (ReadAddress, (λ i. decoded_of (is i) (e i)), read_address)
 
-write_bytes : (chip : Chip) (b : ℕ) → WriteByte chip b → (command : Command) × (decoded_of chip b ≡ Taken command) × WriteCommand command
+write_bytes : (chip : Chip) (b : ℕ) → WriteByte chip b → (command : Command) × (decoded_of chip b ≡ Some command) × WriteCommand command
 unfolding decoded_of decoded_by_both decoded_with_u
 write_bytes chip b (courses.write_sector first last) = (WriteSector, writes_sector chip b first last, write_sector)
 write_bytes chip b (courses.write_track (inl e)) = (WriteTrack, ap (decoded_of chip) e, write_track)

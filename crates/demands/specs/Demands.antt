@@ -6,8 +6,7 @@ use Rattle.command.specs.declared.Chip.{Chip}
 use Rattle.registers.specs.declared.Lines.{Lines}
 use Rattle.picture.specs.declared.Answer.{Answer}
 use Rattle.wd.specs.declared.Machine.{Machine}
-use Rattle.wd.specs.declared.Started.{Started}
-use Rattle.wd.specs.declared.Loaded.{Loaded}
+use Rattle.wd.specs.declared.Called.{Called}
 use Rattle.wd.specs.declared.Read.{Read}
 use Rattle.wd.specs.declared.Passed.{Passed}
 use Rattle.wd.specs.declared.Ran.{Ran}
@@ -24,12 +23,13 @@ use Rattle.uses.specs.Uses.{Use, documented, Answered, throughout, no_command, h
 use Rattle.uses.specs.Courses.{not_found_bit, lost_data_bit, Shows, Showed, NoErrorBit, FoundGood, Ending, Accepted, since, Course, took, silent, track_of, SingleRead, SingleWrite, ReadByte, WriteByte}
 use Rattle.uses.specs.Sessions.{WriteThenRead, session_of, bytes_taken, length_code, bytes_loaded, bytes_read, Serves}
 use Rattle.demands.specs.Requests.{Requests}
+use Rattle.refusals.specs.Numbers.{done}
 
 -- ---- 1. "Safe on every input: any register byte, track, drive line or machine state. A bad one gets a refusal by number, hands
 -- back the machine as it came and changes no cell of a lent track in that byte time."
 pub record Demand1 : Type 0 where
-  pub power_on_call : (size : ℕ) (mfm : Bool) (chip : Chip) (r : Started) → PowerOnCall size mfm chip r → SafePowerOn size chip r
-  pub load : (m : Machine) (l : Lines) (number b : ℕ) (r : Loaded) → LoadCall m l number b r → SafeLoad m l number b r
+  pub power_on_call : (size : ℕ) (mfm : Bool) (chip : Chip) (r : Called) → PowerOnCall size mfm chip r → SafePowerOn size chip r
+  pub load : (m : Machine) (l : Lines) (number b : ℕ) (r : Called) → LoadCall m l number b r → SafeLoad m l number b r
   pub read : (m : Machine) (l : Lines) (number : ℕ) (r : Read) → ReadCall m l number r → SafeRead m number r
   pub byte_time_call :
       (m : Machine) (l : Lines) (row : List ℕ) (r : Passed) (row' : List ℕ) → ByteTimeCall m l row r row' → SafeByteTime m row r row'
@@ -77,8 +77,8 @@ pub record ReadBack (t : WriteThenRead) (p : ℕ) : Type 0 where
   pub none_lost : Serves t → Shows t.reading.after lost_data_bit false
 
 pub record Demand2 : Type 0 where
-  pub starts : (size : ℕ) (mfm : Bool) (chip : Chip) (r : Started)
-      → PowerOnCall size mfm chip r → r.number ≡ 0 → PoweredOn size mfm chip r.machine
+  pub starts : (size : ℕ) (mfm : Bool) (chip : Chip) (r : Called)
+      → PowerOnCall size mfm chip r → r.outcome ≡ done → PoweredOn size mfm chip r.machine
   pub exactly : (d e : Desk) (u : Use d e) → (e ≡ documented d u) × Answered d u
   -- any interleaving of runs (any limits), byte times and register calls over one row is a host's
   pub every_use : (d e : Desk) (u : Use d e) → IsHost u

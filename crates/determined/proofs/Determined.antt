@@ -7,7 +7,9 @@ use Prim.Native.Nat.{ℕ}
 use lib.ListN.{length}
 use contract.Lifetimes.{Lfts}
 use denote.Ref.{Bor, MutBor}
+use Rattle.std.specs.Prelude.{Option, Result}
 use Rattle.common.proofs.Cases.{determined}
+use Rattle.refusals.specs.declared.Refusal.{Refusal}
 use Rattle.activity.specs.declared.Activity.{Activity}
 use Rattle.registers.specs.declared.Lines.{Lines}
 use Rattle.registers.specs.declared.Ring.{Ring}
@@ -20,13 +22,19 @@ use Rattle.fields.specs.Rings.{cells_of}
 use Rattle.fields.specs.Ids.{next_id}
 use Rattle.fields.specs.DataMarks.{mark_behind}
 use Rattle.fields.specs.declared.Found.{Found}
-use Rattle.fields.specs.declared.Behind.{Behind}
+use Rattle.fields.specs.declared.Marked.{Marked}
 use Rattle.viewer.specs.Views.{place_of, part_cells, part_start, number_of}
 use Rattle.viewer.specs.declared.Place.{Place}
 use Rattle.picture.specs.Reader.{reader_answer, reader_room}
 use Rattle.picture.specs.declared.Answer.{Answer}
+use Rattle.std.specs.Prelude.{Option, Result}
+use Rattle.script.specs.Requests.{request_of}
+use Rattle.script.specs.declared.lines.BadLine.{BadLine}
+use Rattle.script.specs.declared.lines.Line.{Line}
+use Rattle.script.specs.declared.requests.Request.{Request}
 use Rattle.determined.specs.Answers.{OneAnswer}
 use Rattle.crc.proofs as crc
+use Rattle.refusals.proofs as refusals
 use Rattle.scan.proofs as scan
 use Rattle.command.proofs as command
 use Rattle.activity.proofs as activity
@@ -63,12 +71,17 @@ pub crc_calls : (κs : Lfts 0)
     → OneAnswer (crc.step.Reads.Learnt κs)
 crc_calls κs = equation _
 
+pub refusals_calls : (κs : Lfts 0)
+    → OneAnswer (refusals.Refusal.number.Reads.Learnt κs)
+    × OneAnswer (refusals.number.Reads.Learnt κs)
+refusals_calls κs = (equation _, equation _)
+
 pub scan_calls : (κs : Lfts 0)
     → OneAnswer (scan.pass.Reads.Learnt κs)
     × OneAnswer (scan.mark_crc.Reads.Learnt κs)
     × OneAnswer (scan.seek_data.Reads.Learnt κs)
-    × OneAnswer (scan.mark_byte.Reads.Learnt κs)
-    × OneAnswer (scan.is_deleted.Reads.Learnt κs)
+    × OneAnswer (scan.DataMark.byte.Reads.Learnt κs)
+    × OneAnswer (scan.DataMark.is_deleted.Reads.Learnt κs)
     × OneAnswer (scan.hear.Reads.Learnt κs)
     × OneAnswer (scan.lead.Reads.Learnt κs)
     × OneAnswer (scan.window.Reads.Learnt κs)
@@ -90,27 +103,21 @@ command_calls κs =
     (equation _, equation _, equation _, equation _, equation _, equation _, equation _, bounded _ _, bounded _ _)
 
 pub command_bits_calls : (κs : Lfts 0)
-    → OneAnswer (command.bits.updates_track.Reads.Learnt κs)
-    × OneAnswer (command.bits.loads_head.Reads.Learnt κs)
-    × OneAnswer (command.bits.verifies_track.Reads.Learnt κs)
-    × OneAnswer (command.bits.is_multiple.Reads.Learnt κs)
-    × OneAnswer (command.bits.settles_first.Reads.Learnt κs)
+    → OneAnswer (command.bits.is_on.Reads.Learnt κs)
     × OneAnswer (command.bits.selects_side.Reads.Learnt κs)
     × OneAnswer (command.bits.side_asked.Reads.Learnt κs)
     × OneAnswer (command.bits.ibm_lengths.Reads.Learnt κs)
     × OneAnswer (command.bits.mark_written.Reads.Learnt κs)
-    × OneAnswer (command.bits.forces_at_once.Reads.Learnt κs)
-    × OneAnswer (command.bits.forces_at_index.Reads.Learnt κs)
-    × OneAnswer (command.bits.forces_at_not_ready.Reads.Learnt κs)
-    × OneAnswer (command.bits.forces_at_ready.Reads.Learnt κs)
-command_bits_calls κs =
-    (equation _, equation _, equation _, equation _, equation _, equation _, equation _, equation _, equation _, equation _, equation _, equation _, equation _)
+command_bits_calls κs = (equation _, equation _, equation _, equation _, equation _)
 
 pub activity_calls : (κs : Lfts 0)
-    → OneAnswer (activity.taken.Reads.Learnt κs)
+    → OneAnswer (activity.Seen.byte.Reads.Learnt κs)
+    × OneAnswer (activity.Seen.taken.Reads.Learnt κs)
+    × OneAnswer (activity.Seen.pass.Reads.Learnt κs)
+    × OneAnswer (activity.Seen.go_on.Reads.Learnt κs)
     × OneAnswer (activity.busy.Reads.Learnt κs)
     × OneAnswer (activity.within.Reads.Learnt κs)
-activity_calls κs = (equation _, equation _, equation _)
+activity_calls κs = (equation _, equation _, equation _, equation _, equation _, equation _)
 
 pub stepping_calls : (κs : Lfts 0)
     → OneAnswer (stepping.seek.Reads.Learnt κs)
@@ -152,16 +159,15 @@ pub act_calls : (κs : Lfts 0)
 act_calls κs = equation _
 
 pub accepting_calls : (κs : Lfts 0)
-    → OneAnswer (accepting.held.Reads.Learnt κs)
-    × OneAnswer (accepting.asks.Reads.Learnt κs)
-    × OneAnswer (accepting.begin_regs.Reads.Learnt κs)
-    × OneAnswer (accepting.begin_wires.Reads.Learnt κs)
-    × OneAnswer (accepting.begin_flags.Reads.Learnt κs)
-    × OneAnswer (accepting.begin_head.Reads.Learnt κs)
-    × OneAnswer (accepting.conditions_for.Reads.Learnt κs)
-    × OneAnswer (accepting.begin_activity.Reads.Learnt κs)
-    × OneAnswer (accepting.begin_side.Reads.Learnt κs)
-accepting_calls κs = (equation _, equation _, equation _, equation _, equation _, equation _, equation _, equation _, equation _)
+    → OneAnswer (accepting.conditions_for.Reads.Learnt κs)
+    × OneAnswer (accepting.Acceptance.new.Reads.Learnt κs)
+    × OneAnswer (accepting.Acceptance.regs.Reads.Learnt κs)
+    × OneAnswer (accepting.Acceptance.wires.Reads.Learnt κs)
+    × OneAnswer (accepting.Acceptance.flags.Reads.Learnt κs)
+    × OneAnswer (accepting.Acceptance.head.Reads.Learnt κs)
+    × OneAnswer (accepting.Acceptance.activity.Reads.Learnt κs)
+    × OneAnswer (accepting.Acceptance.side.Reads.Learnt κs)
+accepting_calls κs = (equation _, equation _, equation _, equation _, equation _, equation _, equation _, equation _)
 
 pub effects_calls : (κs : Lfts 0)
     → OneAnswer (effects.Parts.after.Reads.Learnt κs)
@@ -214,12 +220,19 @@ pub script_calls : (κs : Lfts 0)
     → OneAnswer (script.lines.Reader.start.Reads.Learnt κs)
     × OneAnswer (script.lines.Reader.fed.Reads.Learnt κs)
     × OneAnswer (script.lines.Reader.ended.Reads.Learnt κs)
-    × OneAnswer (script.request_of.Reads.Learnt κs)
     × OneAnswer (script.words.Word.none.Reads.Learnt κs)
     × OneAnswer (script.words.Word.with.Reads.Learnt κs)
     × OneAnswer (script.words.Word.is_letter.Reads.Learnt κs)
     × OneAnswer (script.words.Word.is_number.Reads.Learnt κs)
-script_calls κs = (equation _, equation _, equation _, equation _, equation _, equation _, equation _, equation _)
+script_calls κs = (equation _, equation _, equation _, equation _, equation _, equation _, equation _)
+
+-- the line is lent for a look
+pub request_call : (κs : Lfts 1) (line line' : Bor Line) (r r' : Result (Option Request) BadLine) (e e' : _)
+    → line.now ≡ line'.now
+    → script.request_of.Reads.Learnt κs (line, tt) r e
+    → script.request_of.Reads.Learnt κs (line', tt) r' e'
+    → r ≡ r'
+request_call κs line line' r r' e e' same p q = p ∙ ap request_of same ∙ sym q
 
 -- ---- the calls that are lent a row: their input is what it holds, wherever it stands
 
@@ -259,13 +272,13 @@ module _ (κs : Lfts 1) (row row' : Bor (List ℕ)) (same : row.now ≡ row'.now
       → r ≡ r'
   cell_call place r r' e e' p q = p ∙ ap (λ (row : List ℕ). cells_of row place) same ∙ sym q
 
-  pub next_id_call : (mfm : Bool) (from to : ℕ) (r r' : Found) (e e' : _)
+  pub next_id_call : (mfm : Bool) (from to : ℕ) (r r' : Option Found) (e e' : _)
       → fields.next_id.Reads.Learnt κs (row, (mfm, (from, (to, tt)))) r e
       → fields.next_id.Reads.Learnt κs (row', (mfm, (from, (to, tt)))) r' e'
       → r ≡ r'
   next_id_call mfm from to r r' e e' p q = p ∙ ap (λ (row : List ℕ). next_id mfm row from to) same ∙ sym q
 
-  pub mark_behind_call : (mfm : Bool) (place : ℕ) (r r' : Behind) (e e' : _)
+  pub mark_behind_call : (mfm : Bool) (place : ℕ) (r r' : Option Marked) (e e' : _)
       → fields.mark_behind.Reads.Learnt κs (row, (mfm, (place, tt))) r e
       → fields.mark_behind.Reads.Learnt κs (row', (mfm, (place, tt))) r' e'
       → r ≡ r'
@@ -273,11 +286,11 @@ module _ (κs : Lfts 1) (row row' : Bor (List ℕ)) (same : row.now ≡ row'.now
 
 module _ (κs : Lfts 2) (side0 side1 side0' side1' : Bor (List ℕ)) (mfm : Bool) (track sector : ℕ)
     (same0 : side0.now ≡ side0'.now) (same1 : side1.now ≡ side1'.now) where
-  pub find_call : (r r' : Place) (e e' : _)
+  pub find_call : (r r' : Result Place Refusal) (e e' : _)
       → viewer.find.Reads.Learnt κs (side0, (side1, (mfm, (track, (sector, tt))))) r e
       → viewer.find.Reads.Learnt κs (side0', (side1', (mfm, (track, (sector, tt))))) r' e'
       → r ≡ r'
-  find_call r r' e e' p q = p ∙ ap₂ (λ (s0 s1 : List ℕ). place_of s0 s1 mfm track sector) same0 same1 ∙ sym q
+  find_call r r' e e' p q = p.0 ∙ ap₂ (λ (s0 s1 : List ℕ). place_of s0 s1 mfm track sector) same0 same1 ∙ sym q.0
 
   pub number_call : (r r' : ℕ) (e e' : _)
       → viewer.number.Reads.Learnt κs (side0, (side1, (mfm, (track, (sector, tt))))) r e

@@ -17,19 +17,21 @@ use Rattle.wd.specs.Loads.{load_register}
 use Rattle.hosts.specs.Hosts.{Call, loads, reads, called_of, commands, called_all, NoneAccepted, none, more}
 use Rattle.hosts.proofs.QuietCalls.{load_by, read_regs}
 use Rattle.ends.specs.Ends.{leaves_dr}
+use Rattle.std.specs.Result.{is_ok}
+use Rattle.refusals.specs.Numbers.{Outcome}
 
--- 0 for a load: its register is one of the four
-of_four : (valid busy : Bool) (number b : ℕ) → eqb (load_refusal valid busy number b) 0 ≡ true → number ≤ 3
+-- a load that is done: its register is one of the four
+of_four : (valid busy : Bool) (number b : ℕ) → is_ok (load_refusal valid busy number b) ≡ true → number ≤ 3
 unfolding load_refusal
 of_four true busy number b =
-    by_cond (λ (n : ℕ). eqb n 0 ≡ true → number ≤ 3) (leb number 3) (λ low e. leb-true number 3 low) (λ high e. never (cc))
+    by_cond (λ (o : Outcome). is_ok o ≡ true → number ≤ 3) (leb number 3) (λ low e. leb-true number 3 low) (λ high e. never (cc))
 of_four false busy number b = λ e. never (cc)
 
 -- what it hands back has the DR that it was given, if it is no accepted command
 load_steady :
     (m : Machine) (l : Lines) (number b : ℕ)
     → eqb number 3 ≡ false
-    → (eqb number 0 && eqb (load_register m l number b).number 0) ≡ false
+    → (eqb number 0 && is_ok (load_register m l number b).outcome) ≡ false
     → (load_register m l number b).machine.regs.dr ≡ m.regs.dr
 unfolding load_regs
 load_steady m l number b other =

@@ -1,16 +1,16 @@
 -- Every command ends: with HLT on, each accepted command without m ends by itself, within so many byte times. Its
 -- premises and its conclusion. Assumes nothing.
-use Rattle.std.specs.Prelude.{◌≡◌, Bool, true, false, cond, not, ◌&&◌, List, [], ◌∷◌, ◌⊎◌, ℕ, ◌+◌, ◌-◌, ◌*◌, ◌≤◌, ◌<◌, eqb, length, get_or}
+use Rattle.std.specs.Prelude.{◌≡◌, Bool, true, false, cond, not, ◌&&◌, List, [], ◌∷◌, ◌⊎◌, ℕ, ◌+◌, ◌-◌, ◌*◌, ◌≤◌, ◌<◌, eqb, length, get_or, Some}
 use Rattle.command.specs.Bits.{is_multiple, verifies_track}
 use Rattle.command.specs.Commands.{decoded_of}
 use Rattle.command.specs.Times.{step_time_of, settle_time_of}
 use Rattle.command.specs.declared.Command.{Command}
 use Rattle.command.specs.declared.Command.TheVariants.{Restore, Seek, Step, StepIn, StepOut, ReadSector, WriteSector, ReadAddress, WriteTrack, ForceInterrupt}
-use Rattle.command.specs.declared.Decoded.TheVariants.{Taken}
 use Rattle.accepting.specs.Accepting.{ends_at_once}
 use Rattle.wd.specs.Loads.{load_register}
 use Rattle.hosts.specs.Hosts.{Call, loads, reads, at, BusyAt, Undisturbed, EndsAt}
 use Rattle.hosts.specs.Scenes.{Scene, loaded, settling}
+use Rattle.refusals.specs.Numbers.{done}
 
 -- ---- premises
 
@@ -18,8 +18,8 @@ use Rattle.hosts.specs.Scenes.{Scene, loaded, settling}
 -- is an accepted command; when it is over the host does as it likes.
 pub record EndPremises (s : Scene) (command : Command) : Type 0 where
   -- every accepted command
-  pub decodes : decoded_of s.machine.chip s.byte ≡ Taken command
-  pub accepted : (load_register s.machine s.lines 0 s.byte).number ≡ 0
+  pub decodes : decoded_of s.machine.chip s.byte ≡ Some command
+  pub accepted : (load_register s.machine s.lines 0 s.byte).outcome ≡ done
   -- "without m", the bit of Type II
   pub single : (command ≡ ReadSector) ⊎ (command ≡ WriteSector) → is_multiple s.byte ≡ false
   -- "the head-load line on throughout"

@@ -4,14 +4,14 @@ use mathlib.Core.Bool.{Bool, true, false, cond}
 use Prim.Native.Nat.{ℕ, ◌≤◌, ◌<◌}
 use native.Mathlib.Decide.{dec_lt}
 use native.Mathlib.Omega.{arith}
-use lib.Dec.{leb, eqb}
+use lib.Dec.{leb}
 use borrow.Author.Tests.{leb-true}
 use Rattle.common.proofs.Arms.{range}
 use Rattle.common.proofs.Cases.{never, both}
 use Rattle.command.specs.Commands.{decoded_by_both, decoded_of, within}
 use Rattle.command.specs.declared.Chip.{Chip}
 use Rattle.command.specs.declared.Command.TheVariants.{ReadSector, ForceInterrupt}
-use Rattle.command.specs.declared.Decoded.TheVariants.{Taken}
+use Rattle.std.specs.Prelude.{Some}
 use Rattle.activity.specs.Limits.{busy_in}
 use Rattle.registers.specs.declared.Lines.{Lines}
 use Rattle.registers.specs.Registers.{guarded, load_refusal}
@@ -24,9 +24,13 @@ use Rattle.reachable.proofs.Fixed.{further, load_fixed}
 use Rattle.hosts.proofs.Idling.{calls_fixed, host_fixed}
 use Rattle.hosts.proofs.QuietCalls.{calls_activity}
 use Rattle.exact.specs.Demand2.{Session, begun, asked, Commands}
+use Rattle.refusals.specs.Numbers.{done, refused}
+use Rattle.std.specs.Result.{is_ok}
+use Rattle.refusals.specs.declared.Refusal.TheVariants as refusal
+use Rattle.refusals.proofs.Outcomes.{refused-done}
 
 -- it is no Force Interrupt
-no_force : (chip : Chip) (b : ℕ) → decoded_of chip b ≡ Taken ReadSector → within 0xD0 0xDF b ≡ false
+no_force : (chip : Chip) (b : ℕ) → decoded_of chip b ≡ Some ReadSector → within 0xD0 0xDF b ≡ false
 unfolding decoded_of decoded_by_both
 no_force chip b e = by (within 0xD0 0xDF b) refl
   where
@@ -36,12 +40,12 @@ no_force chip b e = by (within 0xD0 0xDF b) refl
         let h = both (leb 0xD0 b) (leb b 0xDF) f in
         let low : 0xD0 ≤ b = leb-true 0xD0 b h.0 in
         let high : b ≤ 0xDF = leb-true b 0xDF h.1 in
-        let z : Taken ForceInterrupt ≡ Taken ReadSector = range (decoded_of chip) 0xD0 16 refl low (omega arith) ∙ e in
+        let z : Some ForceInterrupt ≡ Some ReadSector = range (decoded_of chip) 0xD0 16 refl low (omega arith) ∙ e in
         never (cc)
 
 -- "any command byte outside D0-DF loaded while Busy"
 idle_then : (m : Machine) (l : Lines) (b : ℕ)
-    → (load_register m l 0 b).number ≡ 0
+    → (load_register m l 0 b).outcome ≡ done
     → within 0xD0 0xDF b ≡ false
     → busy_in m.activity ≡ false
 unfolding load_register load_refusal guarded
@@ -49,13 +53,13 @@ idle_then m l b accepted other = by (busy_in m.activity) (valid_of m) refl accep
   where
     by : (busy valid : Bool)
         → busy_in m.activity ≡ busy
-        → (cond (eqb (load_refusal valid busy 0 b) 0) (command_answer m l b (decoded_of m.chip b))
-        (record { number = load_refusal valid busy 0 b; machine = m })
-        ).number ≡ 0
+        → (cond (is_ok (load_refusal valid busy 0 b)) (command_answer m l b (decoded_of m.chip b))
+        (record { outcome = load_refusal valid busy 0 b; machine = m })
+        ).outcome ≡ done
         → busy_in m.activity ≡ false
     by false valid e h = e
-    by true true e h = let z : ◌≡◌ {A = ℕ} 6 0 = simp other at h in absurd (omega arith)
-    by true false e h = absurd (omega arith)
+    by true true e h = let z : refused refusal.Busy ≡ done = simp other at h in absurd (refused-done _ z)
+    by true false e h = absurd (refused-done _ h)
 
 -- so the read comes after the write
 pub later : (s : Session) → Commands s → s.written ≤ s.waited

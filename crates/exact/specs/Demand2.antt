@@ -1,6 +1,6 @@
 -- Demand 2, reading back what was written: its premises and its conclusion. Hosts, and the bytes that a command takes and
 -- hands over, are of the crate `hosts`: `specs/Hosts.antt` and `specs/Bytes.antt`. Assumes nothing.
-use Rattle.std.specs.Prelude.{◌≡◌, Bool, true, false, cond, not, List, ℕ, suc, ◌+◌, ◌≤◌, ◌<◌, length}
+use Rattle.std.specs.Prelude.{◌≡◌, Bool, true, false, cond, not, List, ℕ, suc, ◌+◌, ◌≤◌, ◌<◌, length, Some}
 use Rattle.common.specs.Bits.{bit_of}
 use Rattle.scan.specs.Marks.{lead_of}
 use Rattle.scan.specs.Streams.{MarkAt, IdAt, id_width, id_from}
@@ -9,7 +9,6 @@ use Rattle.scan.specs.DataMarks.{is_deleted}
 use Rattle.command.specs.Commands.{decoded_of}
 use Rattle.command.specs.Sizes.{field_size}
 use Rattle.command.specs.declared.Command.TheVariants.{ReadSector, WriteSector}
-use Rattle.command.specs.declared.Decoded.TheVariants.{Taken}
 use Rattle.registers.specs.declared.Flags.{Flags}
 use Rattle.registers.specs.declared.Lines.{Lines}
 use Rattle.registers.specs.Status.{bit_for}
@@ -20,6 +19,7 @@ use Rattle.wd.specs.Loads.{load_register}
 use Rattle.hosts.specs.Hosts.{Host, Desk, served_at, at, AloneUntil, EndsAt}
 use Rattle.hosts.specs.Scenes.{Scene, Suits}
 use Rattle.hosts.specs.Bytes.{deed_at, takes, hands, taken, handed, LateAt}
+use Rattle.refusals.specs.Numbers.{done}
 
 -- ---- the two commands
 
@@ -88,9 +88,9 @@ pub record Commands (s : Session) : Type 0 where
   -- a byte in DR, as its type says
   pub dr : s.machine.regs.dr < 256
   -- "A single Write Sector accepted with the drive ready": without m
-  pub writes : decoded_of s.machine.chip s.byte ≡ Taken WriteSector
+  pub writes : decoded_of s.machine.chip s.byte ≡ Some WriteSector
   pub single : is_multiple s.byte ≡ false
-  pub accepted : (load_register s.machine s.lines 0 s.byte).number ≡ 0
+  pub accepted : (load_register s.machine s.lines 0 s.byte).outcome ≡ done
   pub ready : s.lines.ready ≡ true
   -- "that ends by itself with no error bit"
   pub ends : EndsAt s.writer (begun s) s.written
@@ -98,7 +98,7 @@ pub record Commands (s : Session) : Type 0 where
   -- "the next command": none is accepted before it (nor is it accepted before the write has ended)
   pub next : AloneUntil s.writer (begun s) (suc s.waited)
   -- "by a Read Sector on the same registers and flags (bit 0 aside, which is 0 there)"
-  pub reads : decoded_of (asked s).machine.chip s.byte_then ≡ Taken ReadSector
+  pub reads : decoded_of (asked s).machine.chip s.byte_then ≡ Some ReadSector
   pub same_tr : (asked s).machine.regs.tr ≡ s.machine.regs.tr
   pub same_sr : (asked s).machine.regs.sr ≡ s.machine.regs.sr
   pub same_m : is_multiple s.byte_then ≡ is_multiple s.byte
@@ -106,7 +106,7 @@ pub record Commands (s : Session) : Type 0 where
   pub same_side : side_asked (asked s).machine.chip s.byte_then ≡ side_asked s.machine.chip s.byte
   pub same_lengths : ibm_lengths (asked s).machine.chip s.byte_then ≡ ibm_lengths s.machine.chip s.byte
   -- "accepted with the drive ready and ending by itself"
-  pub accepted_then : (load_register (asked s).machine s.lines_then 0 s.byte_then).number ≡ 0
+  pub accepted_then : (load_register (asked s).machine s.lines_then 0 s.byte_then).outcome ≡ done
   pub ready_then : s.lines_then.ready ≡ true
   pub alone : AloneUntil s.reader (resumed s) s.read
   pub ends_then : EndsAt s.reader (resumed s) s.read

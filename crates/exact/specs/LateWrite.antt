@@ -1,21 +1,21 @@
 -- A Write Sector that nobody serves: document 01, "DRQ at 2. Still on at 10: Lost Data, end, nothing written." Its premises and
 -- its conclusion. Assumes nothing.
-use Rattle.std.specs.Prelude.{◌≡◌, true, [], ℕ, ◌+◌, ◌<◌}
+use Rattle.std.specs.Prelude.{◌≡◌, true, [], ℕ, ◌+◌, ◌<◌, Some}
 use Rattle.command.specs.Commands.{decoded_of}
 use Rattle.command.specs.declared.Command.TheVariants.{WriteSector}
-use Rattle.command.specs.declared.Decoded.TheVariants.{Taken}
 use Rattle.activity.specs.declared.Deed.TheVariants.{Ask}
 use Rattle.wd.specs.Loads.{load_register}
 use Rattle.hosts.specs.Hosts.{served_at, at, AloneUntil, EndsAt}
 use Rattle.hosts.specs.Scenes.{Scene, loaded}
 use Rattle.hosts.specs.Bytes.{deed_at, taken}
+use Rattle.refusals.specs.Numbers.{done}
 
 -- ---- premises
 
 -- a Write Sector, with m or without, that is accepted and ends by itself in byte time n; of lines and track nothing is asked
 pub record WritePremises (s : Scene) (n : ℕ) : Type 0 where
-  pub writes : decoded_of s.machine.chip s.byte ≡ Taken WriteSector
-  pub accepted : (load_register s.machine s.lines 0 s.byte).number ≡ 0
+  pub writes : decoded_of s.machine.chip s.byte ≡ Some WriteSector
+  pub accepted : (load_register s.machine s.lines 0 s.byte).outcome ≡ done
   pub alone : AloneUntil s.host (loaded s) n
   pub ends : EndsAt s.host (loaded s) n
 

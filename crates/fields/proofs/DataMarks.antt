@@ -6,6 +6,7 @@ use mathlib.Core.List.{List}
 use mathlib.Core.Logic.{◌↔◌}
 use Prim.Native.Nat.{ℕ, zero, suc, ◌+◌, ◌-◌, ◌≤◌, ◌<◌}
 use native.Mathlib.Omega.{arith}
+use Rattle.std.specs.Prelude.{Option, None, Some}
 use Rattle.common.proofs.Cases.{never}
 use Rattle.scan.specs.declared.DataMark.{DataMark}
 use Rattle.scan.specs.declared.Sought.{Sought}
@@ -14,12 +15,11 @@ use Rattle.scan.specs.Marks.{lead_of}
 use Rattle.scan.specs.DataMarks.{mark_byte, window_of}
 use Rattle.scan.specs.Streams.{MarkAt, sought_past, sought_after, sought_at}
 use Rattle.scan.proofs.DataMarks.{data_marks}
-use Rattle.fields.specs.declared.Behind.{Behind}
-use Rattle.fields.specs.declared.Behind.TheVariants.{Nothing, Mark}
+use Rattle.fields.specs.declared.Marked.{Marked}
 use Rattle.fields.specs.Rings.{cells_of}
-use Rattle.fields.specs.DataMarks.{met_by, sought_in, mark_behind}
+use Rattle.fields.specs.DataMarks.{marked_at, met_by, sought_in, mark_behind}
 use Rattle.fields.specs.Rounds.{MarkWithin, FirstMark}
-use Rattle.fields.proofs.First.{None, First, none_of_none, here, none_later, first_later, once}
+use Rattle.fields.proofs.First.{NoneEnds, First, none_of_none, here, none_later, first_later, once}
 use Rattle.fields.proofs.Shift as shift
 
 module _ (mfm : Bool) (row : List ℕ) (place : ℕ) where
@@ -35,15 +35,15 @@ module _ (mfm : Bool) (row : List ℕ) (place : ℕ) where
   Ends n mark = sought_at mfm stream n ≡ Met mark
 
   -- what is found in the k cells from cell n on
-  abbrev Verdict : ℕ → ℕ → Behind → Type 0
-  Verdict n k Nothing = None Ends n k
-  Verdict n k (Mark mark cell) = (m : ℕ) × (cell ≡ suc m) × First Ends n k m mark
+  abbrev Verdict : ℕ → ℕ → Option Marked → Type 0
+  Verdict n k None = NoneEnds Ends n k
+  Verdict n k (Some marked) = (m : ℕ) × (marked.cell ≡ suc m) × First Ends n k m marked.mark
 
-  later : (n k : ℕ) → ((mark : DataMark) → Ends n mark → ⊥) → (f : Behind) → Verdict (suc n) k f → Verdict n (suc k) f
-  later n k nothing Nothing v = none_later Ends n k nothing v
-  later n k nothing (Mark mark cell) (m, e, v) = (m, e, first_later Ends n k nothing m mark v)
+  later : (n k : ℕ) → ((mark : DataMark) → Ends n mark → ⊥) → (f : Option Marked) → Verdict (suc n) k f → Verdict n (suc k) f
+  later n k nothing None v = none_later Ends n k nothing v
+  later n k nothing (Some marked) (m, e, v) = (m, e, first_later Ends n k nothing m marked.mark v)
 
-  abbrev sought_from : ℕ → ℕ → Behind
+  abbrev sought_from : ℕ → ℕ → Option Marked
   sought_from k n = sought_in mfm row place k n (sought_after mfm stream n)
 
   step : (k n : ℕ) → Verdict (suc n) k (sought_from k (suc n)) → (s : Sought) → sought_at mfm stream n ≡ s
@@ -59,7 +59,7 @@ module _ (mfm : Bool) (row : List ℕ) (place : ℕ) where
   verdict zero n = none_of_none Ends n
   verdict (suc k) n = step k n (verdict k (suc n)) (sought_at mfm stream n) refl
 
-  by_verdict : (f : Behind) → mark_behind mfm row place ≡ f → Verdict 0 (window_of mfm) f
+  by_verdict : (f : Option Marked) → mark_behind mfm row place ≡ f → Verdict 0 (window_of mfm) f
   unfolding mark_behind sought_after
   by_verdict f e = rw e at (verdict (window_of mfm) 0)
 
@@ -123,42 +123,42 @@ module _ (mfm : Bool) (row : List ℕ) (place : ℕ) where
 
   -- "Only the first data mark in the window is the ID's data mark"
   pub mark_behind_lem : (mark : DataMark) (cell : ℕ)
-      → (mark_behind mfm row place ≡ Mark mark cell) ↔ ((a : ℕ) × FirstMark mfm cells place mark a cell)
+      → (mark_behind mfm row place ≡ Some (marked_at mark cell)) ↔ ((a : ℕ) × FirstMark mfm cells place mark a cell)
   mark_behind_lem mark cell = (there, back)
     where
-      there : mark_behind mfm row place ≡ Mark mark cell → (a : ℕ) × FirstMark mfm cells place mark a cell
+      there : mark_behind mfm row place ≡ Some (marked_at mark cell) → (a : ℕ) × FirstMark mfm cells place mark a cell
       there e =
-          let v = by_verdict (Mark mark cell) e in
+          let v = by_verdict (Some (marked_at mark cell)) e in
           rw v.1 (first_of v.0 mark v.2)
 
-      back : (a : ℕ) × FirstMark mfm cells place mark a cell → mark_behind mfm row place ≡ Mark mark cell
+      back : (a : ℕ) × FirstMark mfm cells place mark a cell → mark_behind mfm row place ≡ Some (marked_at mark cell)
       back (a, f) = by (mark_behind mfm row place) refl
         where
           g : First Ends 0 (window_of mfm) (cell - 1) mark
           g = of_first mark a cell f
 
-          by : (r : Behind) → mark_behind mfm row place ≡ r → mark_behind mfm row place ≡ Mark mark cell
-          by Nothing e = absurd (by_verdict Nothing e (cell - 1) g.low g.high mark g.ends)
-          by (Mark other at) e =
-              let v = by_verdict (Mark other at) e in
-              let s = once Ends single 0 (window_of mfm) v.0 (cell - 1) other mark v.2 g in
-              e ∙ ap₂ Mark s.1 (v.1 ∙ ap suc s.0 ∙ sym (counted mark a cell f.within))
+          by : (r : Option Marked) → mark_behind mfm row place ≡ r → mark_behind mfm row place ≡ Some (marked_at mark cell)
+          by None e = absurd (by_verdict None e (cell - 1) g.low g.high mark g.ends)
+          by (Some other) e =
+              let v = by_verdict (Some other) e in
+              let s = once Ends single 0 (window_of mfm) v.0 (cell - 1) other.mark mark v.2 g in
+              e ∙ ap₂ (λ (m : DataMark) (c : ℕ). Some (marked_at m c)) s.1 (v.1 ∙ ap suc s.0 ∙ sym (counted mark a cell f.within))
 
   -- no data mark stands in the window
   abbrev pub Unmarked : Type 0
   Unmarked = (mark : DataMark) (a cell : ℕ) → MarkWithin mfm cells place mark a cell → ⊥
 
-  pub no_mark : (mark_behind mfm row place ≡ Nothing) ↔ Unmarked
+  pub no_mark : (mark_behind mfm row place ≡ None) ↔ Unmarked
   no_mark = (there, back)
     where
-      there : mark_behind mfm row place ≡ Nothing → Unmarked
+      there : mark_behind mfm row place ≡ None → Unmarked
       there e mark a cell w =
           let high : cell ≤ window_of mfm = w.high in
-          by_verdict Nothing e (cell - 1) (omega arith) (omega (arith, counted mark a cell w)) mark (ended mark a cell w)
+          by_verdict None e (cell - 1) (omega arith) (omega (arith, counted mark a cell w)) mark (ended mark a cell w)
 
-      back : Unmarked → mark_behind mfm row place ≡ Nothing
+      back : Unmarked → mark_behind mfm row place ≡ None
       back none = by (mark_behind mfm row place) refl
         where
-          by : (r : Behind) → mark_behind mfm row place ≡ r → mark_behind mfm row place ≡ Nothing
-          by Nothing e = e
-          by (Mark mark cell) e = let r = (mark_behind_lem mark cell).0 e in absurd (none mark r.0 cell r.1.within)
+          by : (r : Option Marked) → mark_behind mfm row place ≡ r → mark_behind mfm row place ≡ None
+          by None e = e
+          by (Some marked) e = let r = (mark_behind_lem marked.mark marked.cell).0 e in absurd (none marked.mark r.0 marked.cell r.1.within)

@@ -6,8 +6,8 @@ use native.Mathlib.Decide.{ℕ_discrete, dec_lt}
 
 module _ {A : Type 0} (Ends : ℕ → A → Type 0) where
   -- nothing ends in the k cells from cell n on
-  abbrev pub None : ℕ → ℕ → Type 0
-  None n k = (u : ℕ) → n ≤ u → u < n + k → (x : A) → Ends u x → ⊥
+  abbrev pub NoneEnds : ℕ → ℕ → Type 0
+  NoneEnds n k = (u : ℕ) → n ≤ u → u < n + k → (x : A) → Ends u x → ⊥
 
   -- x ends at cell m, the first of the k cells from cell n on at which anything does
   pub record First (n k m : ℕ) (x : A) : Type 0 where
@@ -16,7 +16,7 @@ module _ {A : Type 0} (Ends : ℕ → A → Type 0) where
     pub ends : Ends m x
     pub before : (u : ℕ) → n ≤ u → u < m → (y : A) → Ends u y → ⊥
 
-  pub none_of_none : (n : ℕ) → None n 0
+  pub none_of_none : (n : ℕ) → NoneEnds n 0
   none_of_none n u l h = absurd (omega arith)
 
   pub here : (n k : ℕ) (x : A) → Ends n x → First n (suc k) n x
@@ -31,7 +31,7 @@ module _ {A : Type 0} (Ends : ℕ → A → Type 0) where
         by (yes e) = subst (λ (z : ℕ). (x : A) → Ends z x → ⊥) e nothing
         by (no d) = later (omega arith)
 
-    pub none_later : None (suc n) k → None n (suc k)
+    pub none_later : NoneEnds (suc n) k → NoneEnds n (suc k)
     none_later h u l r = from u l (λ m. h u m (omega arith))
 
     pub first_later : (m : ℕ) (x : A) → First (suc n) k m x → First n (suc k) m x

@@ -8,6 +8,7 @@ use Prim.Native.Nat.{ℕ, zero, suc, ◌+◌, ◌-◌, ◌≤◌, ◌<◌}
 use native.Mathlib.Nat.{add-zero, add-suc}
 use native.Mathlib.Decide.{dec_lt}
 use native.Mathlib.Omega.{arith}
+use Rattle.std.specs.Prelude.{Option, None, Some}
 use Rattle.common.proofs.Cases.{never}
 use Rattle.scan.specs.declared.Id.{Id}
 use Rattle.scan.specs.declared.Heard.{Heard}
@@ -16,11 +17,10 @@ use Rattle.scan.specs.Marks.{lead_of}
 use Rattle.scan.specs.Streams.{MarkAt, behind, IdAt, id_from, id_width, scan_past, scan_after, heard_at}
 use Rattle.scan.proofs.Ids.{ids}
 use Rattle.fields.specs.declared.Found.{Found}
-use Rattle.fields.specs.declared.Found.TheVariants.{Nothing, At}
 use Rattle.fields.specs.Rings.{cells_of}
-use Rattle.fields.specs.Ids.{found_by, heard_in, next_id}
+use Rattle.fields.specs.Ids.{found_at, found_by, heard_in, next_id}
 use Rattle.fields.specs.Rounds.{IdWithin, FirstId}
-use Rattle.fields.proofs.First.{None, First, none_of_none, here, none_later, first_later, once}
+use Rattle.fields.proofs.First.{NoneEnds, First, none_of_none, here, none_later, first_later, once}
 use Rattle.fields.proofs.Shift as shift
 
 -- ---- the scanner, from a place on
@@ -34,15 +34,15 @@ module _ (mfm : Bool) (row : List ℕ) (from : ℕ) where
   Ends n id = heard_at mfm stream n ≡ Whole id
 
   -- what is found in the k cells from cell n on
-  abbrev Verdict : ℕ → ℕ → Found → Type 0
-  Verdict n k Nothing = None Ends n k
-  Verdict n k (At id behind) = (m : ℕ) × (behind ≡ suc (from + m)) × First Ends n k m id
+  abbrev Verdict : ℕ → ℕ → Option Found → Type 0
+  Verdict n k None = NoneEnds Ends n k
+  Verdict n k (Some found) = (m : ℕ) × (found.behind ≡ suc (from + m)) × First Ends n k m found.id
 
-  later : (n k : ℕ) → ((id : Id) → Ends n id → ⊥) → (f : Found) → Verdict (suc n) k f → Verdict n (suc k) f
-  later n k nothing Nothing v = none_later Ends n k nothing v
-  later n k nothing (At id behind) (m, e, v) = (m, e, first_later Ends n k nothing m id v)
+  later : (n k : ℕ) → ((id : Id) → Ends n id → ⊥) → (f : Option Found) → Verdict (suc n) k f → Verdict n (suc k) f
+  later n k nothing None v = none_later Ends n k nothing v
+  later n k nothing (Some found) (m, e, v) = (m, e, first_later Ends n k nothing m found.id v)
 
-  abbrev heard_from : ℕ → ℕ → Found
+  abbrev heard_from : ℕ → ℕ → Option Found
   heard_from k n = heard_in mfm row k (from + n) (scan_after mfm stream n)
 
   step : (k n : ℕ) → Verdict (suc n) k (heard_from k (suc n)) → (h : Heard) → heard_at mfm stream n ≡ h
@@ -142,52 +142,52 @@ module _ (mfm : Bool) (row : List ℕ) (from to : ℕ) where
   single : (u : ℕ) (x y : Id) → Stops u x → Stops u y → x ≡ y
   single u x y p q = cc
 
-  by_verdict : (f : Found) → next_id mfm row from to ≡ f → Verdict mfm row from 0 (to - from) f
+  by_verdict : (f : Option Found) → next_id mfm row from to ≡ f → Verdict mfm row from 0 (to - from) f
   by_verdict f e = rw e at (found mfm row from to)
 
   -- `next_id` finds the first ID, and says what it says and where it ends
   pub next_id_lem : (id : Id) (behind : ℕ)
-      → (next_id mfm row from to ≡ At id behind) ↔ ((a : ℕ) × (a + id_width mfm ≡ behind) × FirstId mfm cells from to a id)
+      → (next_id mfm row from to ≡ Some (found_at id behind)) ↔ ((a : ℕ) × (a + id_width mfm ≡ behind) × FirstId mfm cells from to a id)
   next_id_lem id behind = (there, back)
     where
-      there : next_id mfm row from to ≡ At id behind → (a : ℕ) × (a + id_width mfm ≡ behind) × FirstId mfm cells from to a id
+      there : next_id mfm row from to ≡ Some (found_at id behind) → (a : ℕ) × (a + id_width mfm ≡ behind) × FirstId mfm cells from to a id
       there e =
-          let v = by_verdict (At id behind) e in
+          let v = by_verdict (Some (found_at id behind)) e in
           let r = first_of v.0 id v.2 in
           (r.0, r.1 ∙ sym v.1, r.2)
 
-      back : (a : ℕ) × (a + id_width mfm ≡ behind) × FirstId mfm cells from to a id → next_id mfm row from to ≡ At id behind
+      back : (a : ℕ) × (a + id_width mfm ≡ behind) × FirstId mfm cells from to a id → next_id mfm row from to ≡ Some (found_at id behind)
       back (a, p, f) = by (next_id mfm row from to) refl
         where
           g : (n : ℕ) × (a + id_width mfm ≡ suc (from + n)) × First Stops 0 (to - from) n id
           g = of_first a id f
 
-          by : (r : Found) → next_id mfm row from to ≡ r → next_id mfm row from to ≡ At id behind
-          by Nothing e =
-              absurd (by_verdict Nothing e g.0 g.2.low g.2.high id g.2.ends)
-          by (At other place) e =
-              let v = by_verdict (At other place) e in
-              let s = once Stops single 0 (to - from) v.0 g.0 other id v.2 g.2 in
-              e ∙ ap₂ At s.1 (v.1 ∙ ap (λ (n : ℕ). suc (from + n)) s.0 ∙ sym g.1 ∙ p)
+          by : (r : Option Found) → next_id mfm row from to ≡ r → next_id mfm row from to ≡ Some (found_at id behind)
+          by None e =
+              absurd (by_verdict None e g.0 g.2.low g.2.high id g.2.ends)
+          by (Some other) e =
+              let v = by_verdict (Some other) e in
+              let s = once Stops single 0 (to - from) v.0 g.0 other.id id v.2 g.2 in
+              e ∙ ap₂ (λ (i : Id) (b : ℕ). Some (found_at i b)) s.1 (v.1 ∙ ap (λ (n : ℕ). suc (from + n)) s.0 ∙ sym g.1 ∙ p)
 
   -- and finds nothing exactly when there is none
-  pub no_id : (next_id mfm row from to ≡ Nothing) ↔ ((a : ℕ) → IdWithin mfm cells from to a → ⊥)
+  pub no_id : (next_id mfm row from to ≡ None) ↔ ((a : ℕ) → IdWithin mfm cells from to a → ⊥)
   no_id = (there, back)
     where
-      there : next_id mfm row from to ≡ Nothing → (a : ℕ) → IdWithin mfm cells from to a → ⊥
+      there : next_id mfm row from to ≡ None → (a : ℕ) → IdWithin mfm cells from to a → ⊥
       there e a w =
           let low : from ≤ a = w.low in
           let high : a + id_width mfm ≤ to = w.high in
           let n = a + id_width mfm - from - 1 in
           let q : from + suc n ≡ a + id_width mfm = omega arith in
-          by_verdict Nothing e n (omega arith) (omega arith) (id_from mfm cells a) (to_end a n q w)
+          by_verdict None e n (omega arith) (omega arith) (id_from mfm cells a) (to_end a n q w)
 
-      back : ((a : ℕ) → IdWithin mfm cells from to a → ⊥) → next_id mfm row from to ≡ Nothing
+      back : ((a : ℕ) → IdWithin mfm cells from to a → ⊥) → next_id mfm row from to ≡ None
       back none = by (next_id mfm row from to) refl
         where
-          by : (r : Found) → next_id mfm row from to ≡ r → next_id mfm row from to ≡ Nothing
-          by Nothing e = e
-          by (At id behind) e = let r = (next_id_lem id behind).0 e in absurd (none r.0 r.2.within)
+          by : (r : Option Found) → next_id mfm row from to ≡ r → next_id mfm row from to ≡ None
+          by None e = e
+          by (Some found) e = let r = (next_id_lem found.id found.behind).0 e in absurd (none r.0 r.2.within)
 
 -- ---- one after another
 

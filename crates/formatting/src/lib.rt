@@ -4,7 +4,7 @@
 ghost use Rattle.std.specs.Prelude.{◌≡◌};
 ghost use Rattle.formatting.specs.Formatting.{until_last, presets, laid_cell, laid_crc, format_cell, format_crc_cell};
 
-use activity::{Act, Activity, Deed, Seen, taken};
+use activity::{Act, Activity, Deed, Seen};
 
 #[tactic(auto, unfolding(crate::specs::Formatting::until_last))]
 fn until_last(last: bool, next: Activity) -> Activity
@@ -18,7 +18,7 @@ fn until_last(last: bool, next: Activity) -> Activity
 fn presets_crc(byte: u8) -> bool
     ensures { result ≡ presets byte }
 {
-    ((0xF8 <= byte) & (byte <= 0xFB)) | (byte == 0xFE)
+    matches!(byte, 0xF8..=0xFB | 0xFE)
 }
 
 // The cell that a byte is laid as.
@@ -27,13 +27,11 @@ pub fn laid_cell(mfm: bool, byte: u8) -> u16
     ensures { result ≡ laid_cell mfm byte }
 {
     if mfm {
-        if byte == 0xF5 {
-            return scan::SYNC;
-        }
-        if byte == 0xF6 {
-            return 0x1C2;
-        }
-        return byte as u16;
+        return match byte {
+            0xF5 => scan::SYNC,
+            0xF6 => 0x1C2,
+            _ => byte as u16,
+        };
     }
     if presets_crc(byte) | (byte == 0xFC) {
         return byte as u16 + 256;
@@ -47,13 +45,11 @@ pub fn laid_crc(mfm: bool, crc: u16, byte: u8) -> u16
     ensures { result ≡ laid_crc mfm crc byte }
 {
     if mfm {
-        if byte == 0xF5 {
-            return 0xCDB4;
-        }
-        if byte == 0xF6 {
-            return crc::step(crc, 0xC2);
-        }
-        return crc::step(crc, byte);
+        return match byte {
+            0xF5 => 0xCDB4,
+            0xF6 => crc::step(crc, 0xC2),
+            _ => crc::step(crc, byte),
+        };
     }
     if presets_crc(byte) {
         return crc::step(0xFFFF, byte);
@@ -66,7 +62,7 @@ pub fn laid_crc(mfm: bool, crc: u16, byte: u8) -> u16
 pub fn format(s: Seen, crc: u16) -> Act
     ensures { result ≡ format_cell s crc }
 {
-    let byte = taken(s);
+    let byte = s.taken();
     if byte == 0xF7 {
         return Act {
             next: until_last(s.last, Activity::FormatCrc(crc)),

@@ -2,8 +2,6 @@
 use mathlib.Core.Path.{◌≡◌, refl, ap, ◌∙◌}
 use mathlib.Core.Bool.{Bool, true, false, cond}
 use Prim.Native.Nat.{ℕ, ◌<◌}
-use lib.Dec.{eqb}
-use borrow.Author.Tests.{eqb-false}
 use Rattle.common.proofs.Cases.{never}
 use Rattle.common.specs.Bits.{bit_of}
 use Rattle.command.specs.Bits.{settles_first}
@@ -12,7 +10,7 @@ use Rattle.command.specs.Orders.{order_of}
 use Rattle.command.specs.Times.{settle_time_of}
 use Rattle.command.specs.declared.Command.{Command}
 use Rattle.command.specs.declared.Command.TheVariants.{Restore, Seek, Step, StepIn, StepOut, ReadSector, WriteSector, ReadAddress, WriteTrack, ForceInterrupt}
-use Rattle.command.specs.declared.Decoded.TheVariants.{Taken}
+use Rattle.std.specs.Prelude.{Some}
 use Rattle.command.specs.declared.Class.{Class}
 use Rattle.command.specs.declared.Class.TheVariants.{Works}
 use Rattle.activity.specs.Limits.{busy_in}
@@ -27,34 +25,37 @@ use Rattle.wd.specs.Loads.{command_begun, command_answer, load_register}
 use Rattle.hosts.specs.Scenes.{Scene, loaded, settling}
 use Rattle.hosts.proofs.DrByte.{begun_byte}
 use Rattle.hosts.proofs.Views.{View, view_of}
+use Rattle.refusals.specs.Numbers.{done}
+use Rattle.refusals.proofs.Outcomes.{not_ok-done}
+use Rattle.std.specs.Result.{is_ok}
 
--- ---- 0 for a load of the command register
+-- ---- a load of the command register that is done
 
-module _ (m : Machine) (l : Lines) (b : ℕ) (accepted : (load_register m l 0 b).number ≡ 0) where
+module _ (m : Machine) (l : Lines) (b : ℕ) (accepted : (load_register m l 0 b).outcome ≡ done) where
   -- it is not refused by 2, 5 or 6
-  unrefused : eqb (load_refusal (valid_of m) (busy_in m.activity) 0 b) 0 ≡ true
+  unrefused : is_ok (load_refusal (valid_of m) (busy_in m.activity) 0 b) ≡ true
   unfolding load_register
-  unrefused = by (eqb (load_refusal (valid_of m) (busy_in m.activity) 0 b) 0) refl accepted
+  unrefused = by (is_ok (load_refusal (valid_of m) (busy_in m.activity) 0 b)) refl accepted
     where
       by :
           (free : Bool)
-          → eqb (load_refusal (valid_of m) (busy_in m.activity) 0 b) 0 ≡ free
+          → is_ok (load_refusal (valid_of m) (busy_in m.activity) 0 b) ≡ free
           → (cond free (command_answer m l b (decoded_of m.chip b))
-          (record { number = load_refusal (valid_of m) (busy_in m.activity) 0 b; machine = m })
-          ).number ≡ 0
+          (record { outcome = load_refusal (valid_of m) (busy_in m.activity) 0 b; machine = m })
+          ).outcome ≡ done
           → free ≡ true
       by true e h = refl
-      by false e h = absurd (eqb-false _ _ e h)
+      by false e h = absurd (not_ok-done _ e h)
 
   pub accepted_valid : valid_of m ≡ true
   unfolding load_refusal
   accepted_valid = by (valid_of m) unrefused
     where
-      by : (valid : Bool) → eqb (load_refusal valid (busy_in m.activity) 0 b) 0 ≡ true → valid ≡ true
+      by : (valid : Bool) → is_ok (load_refusal valid (busy_in m.activity) 0 b) ≡ true → valid ≡ true
       by true e = refl
       by false e = never (cc)
 
-  pub accepted_machine : (command : Command) → decoded_of m.chip b ≡ Taken command → (load_register m l 0 b).machine ≡ command_begun m l b command
+  pub accepted_machine : (command : Command) → decoded_of m.chip b ≡ Some command → (load_register m l 0 b).machine ≡ command_begun m l b command
   unfolding load_register command_answer
   accepted_machine command e = simp (unrefused, e)
 
@@ -104,8 +105,8 @@ ground_of s command =
 
 pub begun_view :
     (s : Scene) (command : Command)
-    → (load_register s.machine s.lines 0 s.byte).number ≡ 0
-    → decoded_of s.machine.chip s.byte ≡ Taken command
+    → (load_register s.machine s.lines 0 s.byte).outcome ≡ done
+    → decoded_of s.machine.chip s.byte ≡ Some command
     → class_of command ≡ Works
     → ends_at_once command s.lines ≡ false
     → view_of (loaded s) ≡ ground_of s command
@@ -142,8 +143,8 @@ flags_given held =
     record { type1 = false; protected = held; deleted = false; missing = false; crc = false; lost = false }
 
 -- "An accepted command .. clears bits 3, 4, Lost Data, type bits and DRQ", "a write under protection sets bit 6"
-module _ (s : Scene) (command : Command) (is : decoded_of s.machine.chip s.byte ≡ Taken command) (works : class_of command ≡ Works)
-    (accepted : (load_register s.machine s.lines 0 s.byte).number ≡ 0) where
+module _ (s : Scene) (command : Command) (is : decoded_of s.machine.chip s.byte ≡ Some command) (works : class_of command ≡ Works)
+    (accepted : (load_register s.machine s.lines 0 s.byte).outcome ≡ done) where
   taken_up : (loaded s).machine ≡ command_begun s.machine s.lines s.byte command
   taken_up = accepted_machine s.machine s.lines s.byte accepted command is
 

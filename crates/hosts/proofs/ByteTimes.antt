@@ -5,11 +5,9 @@ use mathlib.Core.Bool.{true}
 use mathlib.Core.List.{List}
 use Prim.Native.Nat.{ℕ, zero, suc, ◌+◌, ◌≤◌, ◌<◌}
 use native.Mathlib.Nat.{add-zero, add-suc}
-use native.Mathlib.Decide.{ℕ_discrete}
 use native.Mathlib.Omega.{arith}
-use lib.Dec.{ltb, eqb}
+use lib.Dec.{ltb}
 use lib.ListN.{length, set}
-use borrow.Author.Tests.{eq-eqb, ne_eqb}
 use Rattle.common.proofs.Cases.{by_cond}
 use Rattle.activity.specs.Limits.{busy_in}
 use Rattle.activity.specs.declared.Act.{Act}
@@ -29,13 +27,16 @@ use Rattle.hosts.specs.Hosts.{NoneAccepted, Host, Desk, called_all, served_at, p
 use Rattle.hosts.specs.Bytes.{deed_on, deed_at}
 use Rattle.hosts.proofs.QuietCalls.{calls_bus, calls_targets}
 use Rattle.hosts.proofs.Views.{View, view_of, act_in, outside_at, DoneAt, Calm, flags_after_lem, done_machine, done_row, served_view}
+use Rattle.refusals.specs.Numbers.{refused, done}
+use Rattle.std.specs.Result.{is_ok}
+use Rattle.refusals.proofs.Outcomes.{done-ok, not_done-ok, done_decided}
 
 -- "For Types II and III bit 6 is set only by a write refused for protection": no byte time sets it
 pub byte_time_protected :
     (m : Machine) (l : Lines) (row : List ℕ) → (byte_time m l row).machine.flags.protected ≡ m.flags.protected
 unfolding byte_time refused_at done_by cell_turn act_applied
 byte_time_protected m l row =
-    by_cond (λ (p : Passed). p.machine.flags.protected ≡ m.flags.protected) (eqb (row_refusal m (length row)) 0)
+    by_cond (λ (p : Passed). p.machine.flags.protected ≡ m.flags.protected) (is_ok (row_refusal m (length row)))
     (λ e.
     by_cond (λ (p : Passed). p.machine.flags.protected ≡ m.flags.protected) (ltb 511 (under m row))
     (λ f. refl)
@@ -55,7 +56,7 @@ module _ (h : Host) (d : Desk) (n : ℕ) where
   does = does_of finds (h.lines n) (under finds (at h d n).row)
 
   pub done_or_not : Dec (DoneAt h d n)
-  done_or_not = ℕ_discrete _ 0
+  done_or_not = done_decided _
 
   -- one that is done
   module _ (done : DoneAt h d n) where
@@ -69,7 +70,7 @@ module _ (h : Host) (d : Desk) (n : ℕ) where
 
     pub deed_done : deed_at h d n ≡ does.deed
     unfolding deed_on deed_at served_at
-    deed_done = simp (eq-eqb _ _ done)
+    deed_done = simp (done-ok _ done)
 
   -- one that is refused leaves the machine as it finds it
   module _ (refused : DoneAt h d n → ⊥) where
@@ -79,7 +80,7 @@ module _ (h : Host) (d : Desk) (n : ℕ) where
 
     pub deed_none : deed_at h d n ≡ Nothing
     unfolding deed_on deed_at served_at
-    deed_none = simp (ne_eqb _ _ refused)
+    deed_none = simp (not_done-ok _ refused)
 
   -- either leaves in registers, DRQ and flags what its deed says
   record Leaves (after : Machine) (deed : Deed) : Type 0 where

@@ -8,8 +8,7 @@ use Rattle.common.proofs.Cases.{by_cond}
 use Rattle.command.specs.Commands.{decoded_of, is_restore}
 use Rattle.command.specs.declared.Order.{Order}
 use Rattle.command.specs.declared.Command.{Command}
-use Rattle.command.specs.declared.Decoded.{Decoded}
-use Rattle.command.specs.declared.Decoded.TheVariants.{Taken, NoCommand}
+use Rattle.std.specs.Prelude.{Option, Some, None}
 use Rattle.activity.specs.Limits.{busy_in}
 use Rattle.activity.specs.declared.Seen.{Seen}
 use Rattle.activity.specs.declared.Act.{Act}
@@ -25,7 +24,7 @@ use Rattle.accepting.specs.Accepting.{begin_regs}
 use Rattle.effects.specs.declared.Parts.{Parts}
 use Rattle.effects.specs.Effects.{delivered, address_named, record_over, record_read, cell_taken, stepped, halted, effect_of}
 use Rattle.wd.specs.declared.Machine.{Machine}
-use Rattle.wd.specs.declared.Loaded.{Loaded}
+use Rattle.wd.specs.declared.Called.{Called}
 use Rattle.wd.specs.declared.Passed.{Passed as ByteTime}
 use Rattle.wd.specs.Machines.{valid_of}
 use Rattle.wd.specs.Loads.{command_begun, command_answer, load_register}
@@ -33,6 +32,7 @@ use Rattle.wd.specs.Turns.{parts_of, sees_of, act_applied, cell_turn}
 use Rattle.wd.specs.Rows.{row_refusal, under, refused_at, done_by, byte_time}
 use Rattle.hosts.specs.Hosts.{Call, loads, reads, called_of, called_all, Host, Desk, served_at, passes_under, at}
 use Rattle.hosts.proofs.QuietCalls.{read_regs}
+use Rattle.std.specs.Result.{is_ok}
 
 abbrev Holds : Parts → Type 0
 Holds p = p.regs.dr < 256
@@ -75,7 +75,7 @@ module _ (o : Order) (s : Seen) (p : Parts) (low : Holds p) where
 byte_time_byte : (m : Machine) (l : Lines) (row : List ℕ) → m.regs.dr < 256 → (byte_time m l row).machine.regs.dr < 256
 unfolding byte_time refused_at done_by cell_turn act_applied
 byte_time_byte m l row low =
-    by_cond (λ (p : ByteTime). p.machine.regs.dr < 256) (eqb (row_refusal m (length row)) 0)
+    by_cond (λ (p : ByteTime). p.machine.regs.dr < 256) (is_ok (row_refusal m (length row)))
     (λ e.
     by_cond (λ (p : ByteTime). p.machine.regs.dr < 256) (ltb 511 (under m row))
     (λ f. low)
@@ -94,12 +94,12 @@ begun_byte m l b command low =
     by_cond (λ (r : Regs). r.dr < 256) (is_restore command) (λ e. omega arith) (λ e. low)
 
 answer_byte :
-    (m : Machine) (l : Lines) (b : ℕ) (d : Decoded)
+    (m : Machine) (l : Lines) (b : ℕ) (d : Option Command)
     → m.regs.dr < 256
     → (command_answer m l b d).machine.regs.dr < 256
 unfolding command_answer
-answer_byte m l b (Taken command) low = begun_byte m l b command low
-answer_byte m l b NoCommand low = low
+answer_byte m l b (Some command) low = begun_byte m l b command low
+answer_byte m l b None low = low
 
 load_byte :
     (m : Machine) (l : Lines) (number b : ℕ)
@@ -108,9 +108,9 @@ load_byte :
     → (load_register m l number b).machine.regs.dr < 256
 unfolding load_register load_regs
 load_byte m l number b byte low =
-    by_cond (λ (q : Loaded). q.machine.regs.dr < 256) (eqb (load_refusal (valid_of m) (busy_in m.activity) number b) 0)
+    by_cond (λ (q : Called). q.machine.regs.dr < 256) (is_ok (load_refusal (valid_of m) (busy_in m.activity) number b))
     (λ taken.
-    by_cond (λ (q : Loaded). q.machine.regs.dr < 256) (eqb number 0)
+    by_cond (λ (q : Called). q.machine.regs.dr < 256) (eqb number 0)
     (λ command. answer_byte m l b (decoded_of m.chip b) low)
     (λ other.
     by_cond (λ (r : Regs). r.dr < 256) (eqb number 1)

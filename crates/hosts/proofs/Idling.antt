@@ -4,7 +4,6 @@ use mathlib.Core.Bool.{false}
 use mathlib.Core.List.{List, [], ◌∷◌}
 use Prim.Native.Nat.{ℕ, zero, suc, ◌+◌}
 use native.Mathlib.Nat.{add-zero, add-suc}
-use native.Mathlib.Decide.{ℕ_discrete}
 use native.Mathlib.Omega.{arith}
 use lib.ListN.{set}
 use lib.Seq.{set-get_or}
@@ -29,6 +28,8 @@ use Rattle.hosts.specs.Bytes.{deed_at}
 use Rattle.hosts.proofs.QuietCalls.{calls_activity}
 use Rattle.hosts.proofs.Views.{DoneAt, done_machine, done_row}
 use Rattle.hosts.proofs.ByteTimes.{finds, done_or_not, deed_done, deed_none}
+use Rattle.refusals.specs.Numbers.{refused, done}
+use Rattle.refusals.proofs.Outcomes.{done_decided}
 
 -- ---- length and density
 
@@ -81,9 +82,9 @@ idle_does m l cell e = ap (act_of m.order (sees_of m l cell)) e
 module _ (m : Machine) (l : Lines) (row : List ℕ) where
   rests : m.activity ≡ Idle → ((byte_time m l row).machine.activity ≡ Idle) × (byte_time_row m l row ≡ row)
   unfolding cell_turn act_applied seen_of
-  rests idle = by (ℕ_discrete (byte_time m l row).number 0)
+  rests idle = by (done_decided (byte_time m l row).outcome)
     where
-      by : Dec ((byte_time m l row).number ≡ 0) → ((byte_time m l row).machine.activity ≡ Idle) × (byte_time_row m l row ≡ row)
+      by : Dec ((byte_time m l row).outcome ≡ done) → ((byte_time m l row).machine.activity ≡ Idle) × (byte_time_row m l row ≡ row)
       by (yes done) =
           let does = idle_does m l (under m row) idle in (
             ap (λ (n : Machine). n.activity) (done_machine m l row done) ∙ ap (λ a. a.next) does,

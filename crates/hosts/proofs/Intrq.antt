@@ -4,14 +4,14 @@ use mathlib.Core.Bool.{Bool, true, false, or-true}
 use mathlib.Core.List.{List}
 use Prim.Native.Nat.{ℕ, zero, suc}
 use native.Mathlib.Omega.{arith}
-use lib.Dec.{ltb, eqb}
+use lib.Dec.{ltb}
 use lib.ListN.{length}
 use Rattle.common.proofs.Cases.{by_cond, never}
 use Rattle.command.specs.Bits.{settles_first}
 use Rattle.command.specs.Commands.{class_of, decoded_of}
 use Rattle.command.specs.declared.Command.{Command}
 use Rattle.command.specs.declared.Command.TheVariants.{Restore, Seek, Step, StepIn, StepOut, ReadSector, WriteSector, ReadAddress, WriteTrack, ForceInterrupt}
-use Rattle.command.specs.declared.Decoded.TheVariants.{Taken}
+use Rattle.std.specs.Prelude.{Some}
 use Rattle.command.specs.declared.Class.{Class}
 use Rattle.command.specs.declared.Class.TheVariants.{Seeks, Steps, Works, Forces}
 use Rattle.activity.specs.Limits.{busy_in}
@@ -28,6 +28,8 @@ use Rattle.hosts.specs.Hosts.{NoneAccepted, Host, Desk, served_at, passes_under,
 use Rattle.hosts.specs.Scenes.{Scene, loaded}
 use Rattle.hosts.proofs.QuietCalls.{calls_activity}
 use Rattle.hosts.proofs.Accepted.{accepted_machine}
+use Rattle.refusals.specs.Numbers.{done}
+use Rattle.std.specs.Result.{is_ok}
 
 -- ---- in a byte time
 
@@ -39,7 +41,7 @@ pub byte_time_ends :
     → (byte_time m l row).machine.wires.intrq ≡ true
 unfolding byte_time refused_at done_by cell_turn act_applied
 byte_time_ends m l row busy =
-    by_cond Told (eqb (row_refusal m (length row)) 0)
+    by_cond Told (is_ok (row_refusal m (length row)))
     (λ e. by_cond Told (ltb 511 (under m row)) (λ f. still) (λ f off. simp (busy, off, or-true)))
     (λ e. still)
   where
@@ -94,9 +96,9 @@ forces ForceInterrupt e = refl
 -- Of every command but Force Interrupt, in whatever byte time it ends by itself: no other is accepted before that.
 pub ends_told :
     (s : Scene) (command : Command)
-    → decoded_of s.machine.chip s.byte ≡ Taken command
+    → decoded_of s.machine.chip s.byte ≡ Some command
     → (command ≡ ForceInterrupt → ⊥)
-    → (load_register s.machine s.lines 0 s.byte).number ≡ 0
+    → (load_register s.machine s.lines 0 s.byte).outcome ≡ done
     → (n : ℕ)
     → AloneUntil s.host (loaded s) n
     → EndsAt s.host (loaded s) n

@@ -7,19 +7,22 @@ use Prim.Native.Nat.{ℕ}
 use lib.Dec.{leb, eqb}
 use Rattle.common.proofs.Cases.{by_cond, never}
 use Rattle.command.specs.Commands.{decoded_of}
-use Rattle.command.specs.declared.Decoded.{Decoded}
-use Rattle.command.specs.declared.Decoded.TheVariants.{Taken, NoCommand}
+use Rattle.std.specs.Prelude.{Option, Some, None}
+use Rattle.command.specs.declared.Command.{Command}
 use Rattle.activity.specs.Limits.{busy_in}
 use Rattle.registers.specs.declared.Lines.{Lines}
 use Rattle.registers.specs.Registers.{read_refusal, guarded, load_refusal, load_regs, load_wires}
 use Rattle.wd.specs.declared.Machine.{Machine}
-use Rattle.wd.specs.declared.Loaded.{Loaded}
+use Rattle.wd.specs.declared.Called.{Called}
 use Rattle.wd.specs.declared.Read.{Read}
 use Rattle.wd.specs.Machines.{valid_of}
 use Rattle.wd.specs.Reads.{with_bus, read_register}
 use Rattle.wd.specs.Loads.{command_answer, load_register}
 use Rattle.reachable.proofs.Valid.{Valid, load_valid, read_valid}
 use Rattle.hosts.specs.Hosts.{Call, loads, reads, called_of, commands, called_all, NoneAccepted, none, more}
+use Rattle.refusals.specs.declared.Refusal.TheVariants as refusal
+use Rattle.refusals.specs.Numbers.{refused, Outcome, done}
+use Rattle.std.specs.Result.{is_ok}
 
 -- the machine with the registers and wires of another
 abbrev pub bus_from : Machine → Machine → Machine
@@ -27,50 +30,50 @@ bus_from m other = with_bus m other.regs other.wires
 
 -- ---- a load
 
--- 0 for a load while Busy: it is neither of TR nor of SR
+-- a load while Busy that is done: it is neither of TR nor of SR
 unguarded :
     (valid : Bool) (number b : ℕ)
-    → eqb (load_refusal valid true number b) 0 ≡ true
+    → is_ok (load_refusal valid true number b) ≡ true
     → (eqb number 1 ≡ false) × (eqb number 2 ≡ false)
 unfolding load_refusal guarded
 unguarded true number b =
-    by_cond (λ (n : ℕ). eqb n 0 ≡ true → (eqb number 1 ≡ false) × (eqb number 2 ≡ false)) (leb number 3)
+    by_cond (λ (o : Outcome). is_ok o ≡ true → (eqb number 1 ≡ false) × (eqb number 2 ≡ false)) (leb number 3)
     (λ low. by (eqb number 1) (eqb number 2) (eqb number 0 && _))
     (λ high e. never (cc))
   where
-    by : (one two zero : Bool) → eqb (cond (one || two || zero) 6 0) 0 ≡ true → (one ≡ false) × (two ≡ false)
+    by : (one two zero : Bool) → is_ok (cond (one || two || zero) (refused refusal.Busy) done) ≡ true → (one ≡ false) × (two ≡ false)
     by true two zero e = never (cc)
     by false true zero e = never (cc)
     by false false zero e = (refl, refl)
 unguarded false number b = λ e. never (cc)
 
-commanded_bus : (m : Machine) (l : Lines) (b : ℕ) (d : Decoded)
-    → eqb (command_answer m l b d).number 0 ≡ false
+commanded_bus : (m : Machine) (l : Lines) (b : ℕ) (d : Option Command)
+    → is_ok (command_answer m l b d).outcome ≡ false
     → (command_answer m l b d).machine ≡ m
 unfolding command_answer
-commanded_bus m l b (Taken command) e = never (cc)
-commanded_bus m l b NoCommand e = refl
+commanded_bus m l b (Some command) e = never (cc)
+commanded_bus m l b None e = refl
 
 module _ (m : Machine) (l : Lines) (number b : ℕ) where
   -- no accepted command
-  abbrev NoneIn : Loaded → Type 0
-  NoneIn q = (eqb number 0 && eqb q.number 0) ≡ false
+  abbrev NoneIn : Called → Type 0
+  NoneIn q = (eqb number 0 && is_ok q.outcome) ≡ false
 
   -- it leaves the machine, or sets a register
   pub load_by :
       (P : Machine → Type 0)
       → P m
       → (eqb number 0 ≡ false
-      → eqb (load_refusal (valid_of m) (busy_in m.activity) number b) 0 ≡ true
+      → is_ok (load_refusal (valid_of m) (busy_in m.activity) number b) ≡ true
       → P (with_bus m (load_regs m.regs number b) (load_wires m.wires number)))
-      → (eqb number 0 && eqb (load_register m l number b).number 0) ≡ false
+      → (eqb number 0 && is_ok (load_register m l number b).outcome) ≡ false
       → P (load_register m l number b).machine
   unfolding load_register
   load_by P left sets =
-      by_cond (λ (q : Loaded). NoneIn q → P q.machine)
-      (eqb (load_refusal (valid_of m) (busy_in m.activity) number b) 0)
+      by_cond (λ (q : Called). NoneIn q → P q.machine)
+      (is_ok (load_refusal (valid_of m) (busy_in m.activity) number b))
       (λ taken.
-      by_cond (λ (q : Loaded). NoneIn q → P q.machine) (eqb number 0)
+      by_cond (λ (q : Called). NoneIn q → P q.machine) (eqb number 0)
       (λ zero quiet. subst P (sym (commanded_bus m l b (decoded_of m.chip b) (rw zero at quiet))) left)
       (λ other quiet. sets other taken))
       (λ refused quiet. left)
@@ -95,14 +98,14 @@ module _ (m : Machine) (l : Lines) (number b : ℕ) where
 read_bus : (m : Machine) (l : Lines) (number : ℕ) → (read_register m l number).machine ≡ bus_from m (read_register m l number).machine
 unfolding read_register
 read_bus m l number =
-    by_cond (λ (q : Read). q.machine ≡ bus_from m q.machine) (eqb (read_refusal (valid_of m) number) 0)
+    by_cond (λ (q : Read). q.machine ≡ bus_from m q.machine) (is_ok (read_refusal (valid_of m) number))
     (λ taken. refl)
     (λ refused. refl)
 
 pub read_regs : (m : Machine) (l : Lines) (number : ℕ) → (read_register m l number).machine.regs ≡ m.regs
 unfolding read_register
 read_regs m l number =
-    by_cond (λ (q : Read). q.machine.regs ≡ m.regs) (eqb (read_refusal (valid_of m) number) 0)
+    by_cond (λ (q : Read). q.machine.regs ≡ m.regs) (is_ok (read_refusal (valid_of m) number))
     (λ taken. refl)
     (λ refused. refl)
 

@@ -20,7 +20,7 @@ use Rattle.command.specs.Orders.{order_of}
 use Rattle.command.specs.Bits.{side_of, side_asked}
 use Rattle.command.specs.declared.Chip.{Chip}
 use Rattle.command.specs.declared.Chip.TheVariants.{Wd1793, Wd1797}
-use Rattle.command.specs.declared.SideAsked.TheVariants.{Any, Only}
+use Rattle.std.specs.Prelude.{Some, None}
 use Rattle.command.specs.declared.Order.{Order}
 use Rattle.command.specs.declared.Command.{Command}
 use Rattle.activity.specs.declared.Activity.TheVariants.{Settle}
@@ -49,7 +49,7 @@ side_matches_lem Wd1793 b side suits = by (bit_of b 1) suits
   where
     by : (c : Bool)
         → (c ≡ true → side ≡ cond (bit_of b 3) 1 0)
-        → side_matches side (cond c (Only (cond (bit_of b 3) 1 0)) Any) ≡ true
+        → side_matches side (cond c (Some (cond (bit_of b 3) 1 0)) None) ≡ true
     by true same = eq-eqb side _ (same refl)
     by false same = refl
 side_matches_lem Wd1797 b side same = eq-eqb side _ same

@@ -5,7 +5,7 @@ use Prim.Native.Nat.{ℕ, zero, suc, ◌<◌}
 use native.Mathlib.Omega.{arith}
 use Rattle.command.specs.Commands.{class_of, decoded_of}
 use Rattle.command.specs.declared.Command.TheVariants.{ReadSector}
-use Rattle.command.specs.declared.Decoded.TheVariants.{Taken}
+use Rattle.std.specs.Prelude.{Some}
 use Rattle.activity.specs.Limits.{busy_in}
 use Rattle.accepting.specs.Accepting.{held_by, writes, begin_activity, works_from}
 use Rattle.wd.specs.declared.Machine.{Machine}
@@ -13,9 +13,10 @@ use Rattle.wd.specs.Loads.{command_begun, load_register}
 use Rattle.hosts.specs.Hosts.{at, EndsAt}
 use Rattle.hosts.specs.Scenes.{Scene, loaded}
 use Rattle.hosts.proofs.Accepted.{accepted_machine}
+use Rattle.refusals.specs.Numbers.{done}
 
-module _ (s : Scene) (reads : decoded_of s.machine.chip s.byte ≡ Taken ReadSector)
-    (accepted : (load_register s.machine s.lines 0 s.byte).number ≡ 0) (unready : s.lines.ready ≡ false) where
+module _ (s : Scene) (reads : decoded_of s.machine.chip s.byte ≡ Some ReadSector)
+    (accepted : (load_register s.machine s.lines 0 s.byte).outcome ≡ done) (unready : s.lines.ready ≡ false) where
   idle : busy_in (loaded s).machine.activity ≡ false
   unfolding command_begun class_of held_by writes begin_activity works_from busy_in
   idle =

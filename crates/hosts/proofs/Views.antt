@@ -4,10 +4,9 @@ use mathlib.Core.Path.{◌≡◌, refl, sym, ap, ap₂, ◌∙◌}
 use mathlib.Core.Bool.{Bool, true, false, cond, ◌||◌, or-false, or-true}
 use mathlib.Core.List.{List}
 use Prim.Native.Nat.{ℕ, zero, suc, ◌+◌, ◌≤◌}
-use native.Mathlib.Omega.{arith}
 use lib.Dec.{ltb, eqb}
 use lib.ListN.{length, get_or, set}
-use borrow.Author.Tests.{eqb-false, eq-eqb, le-ltb}
+use borrow.Author.Tests.{le-ltb}
 use Rattle.command.specs.declared.Order.{Order}
 use Rattle.activity.specs.Limits.{busy_in}
 use Rattle.activity.specs.declared.Seen.{Seen}
@@ -29,6 +28,10 @@ use Rattle.reachable.proofs.Valid.{Valid, byte_time_valid}
 use Rattle.hosts.specs.Hosts.{NoneAccepted, Host, Desk, called_all, served_at, passes_under, at}
 use Rattle.hosts.proofs.QuietCalls.{calls_bus, calls_valid, calls_targets}
 use Rattle.effects.specs.Effects.{effect_of, delivered, address_named, record_over, record_read, cell_taken, stepped, halted}
+use Rattle.refusals.specs.declared.Refusal.TheVariants as refusal
+use Rattle.refusals.specs.Numbers.{refused, done}
+use Rattle.refusals.proofs.Outcomes.{not_ok-done, done-ok, refused-done}
+use Rattle.std.specs.Result.{is_ok}
 
 -- ---- the view
 
@@ -150,38 +153,38 @@ flags_after_lem f drq (Halt rule load) = record { missing = sym (or-false _); ki
 
 -- a byte time that is done
 abbrev pub Done : Lines → Desk → Type 0
-Done l d = (byte_time d.machine l d.row).number ≡ 0
+Done l d = (byte_time d.machine l d.row).outcome ≡ done
 
 module _ (m : Machine) (l : Lines) (row : List ℕ) where
   done_tests :
-      (byte_time m l row).number ≡ 0 → (eqb (row_refusal m (length row)) 0 ≡ true) × (ltb 511 (under m row) ≡ false)
+      (byte_time m l row).outcome ≡ done → (is_ok (row_refusal m (length row)) ≡ true) × (ltb 511 (under m row) ≡ false)
   unfolding byte_time refused_at done_by
-  done_tests = by (eqb (row_refusal m (length row)) 0) (ltb 511 (under m row)) refl
+  done_tests = by (is_ok (row_refusal m (length row))) (ltb 511 (under m row)) refl
     where
       by :
           (a b : Bool)
-          → eqb (row_refusal m (length row)) 0 ≡ a
-          → (cond a (cond b (refused_at 4 m) (done_by (cell_turn m l (under m row)))) (refused_at (row_refusal m (length row)) m)
-          ).number ≡ 0
+          → is_ok (row_refusal m (length row)) ≡ a
+          → (cond a (cond b (refused_at (refused refusal.Cell) m) (done_by (cell_turn m l (under m row)))) (refused_at (row_refusal m (length row)) m)
+          ).outcome ≡ done
           → (a ≡ true) × (b ≡ false)
-      by true true e h = absurd (omega arith)
+      by true true e h = absurd (refused-done _ h)
       by true false e h = (refl, refl)
-      by false b e h = absurd (eqb-false _ _ e h)
+      by false b e h = absurd (not_ok-done _ e h)
 
   -- it turns the machine and writes the cell as the crate `act` says
-  pub done_machine : (byte_time m l row).number ≡ 0 → (byte_time m l row).machine ≡ (cell_turn m l (under m row)).machine
+  pub done_machine : (byte_time m l row).outcome ≡ done → (byte_time m l row).machine ≡ (cell_turn m l (under m row)).machine
   unfolding byte_time done_by
   done_machine h = let t = done_tests h in simp (t.0, t.1)
 
-  pub done_row : (byte_time m l row).number ≡ 0 → byte_time_row m l row ≡ set row m.ring.position (does_of m l (under m row)).cell
+  pub done_row : (byte_time m l row).outcome ≡ done → byte_time_row m l row ≡ set row m.ring.position (does_of m l (under m row)).cell
   unfolding byte_time_row cell_turn act_applied
   done_row h = let t = done_tests h in simp (t.0, t.1)
 
-  -- 0: a row of its length, and no cell above 511 under the head
-  done_by_lem : Valid m → length row ≡ m.ring.length → under m row ≤ 511 → (byte_time m l row).number ≡ 0
+  -- done: a row of its length, and no cell above 511 under the head
+  done_by_lem : Valid m → length row ≡ m.ring.length → under m row ≤ 511 → (byte_time m l row).outcome ≡ done
   unfolding byte_time done_by
   done_by_lem v whole low =
-      simp (eq-eqb (row_refusal m (length row)) 0 (row_open m (length row) v whole), le-ltb 511 (under m row) low)
+      simp (done-ok (row_refusal m (length row)) (row_open m (length row) v whole), le-ltb 511 (under m row) low)
 
 abbrev desk_of : Machine → List ℕ → Desk
 desk_of m row = record { machine = m; row = row }

@@ -12,7 +12,7 @@ use lib.ListN.{length}
 use Rattle.command.specs.Commands.{class_of, decoded_of, job_of}
 use Rattle.command.specs.Orders.{order_of}
 use Rattle.command.specs.declared.Command.{Command}
-use Rattle.command.specs.declared.Decoded.TheVariants.{Taken}
+use Rattle.std.specs.Prelude.{Some}
 use Rattle.command.specs.declared.Class.TheVariants.{Works}
 use Rattle.activity.specs.Limits.{busy_in}
 use Rattle.activity.specs.declared.Activity.{Activity}
@@ -36,6 +36,7 @@ use Rattle.hosts.proofs.Settling.{settles, waits}
 use Rattle.hosts.proofs.Passing.{OnTrack, head_inside, on_track}
 use Rattle.hosts.proofs.Searching.{TypeTwo}
 use Rattle.hosts.proofs.Silent.{Silent, Early, early_silent}
+use Rattle.refusals.specs.Numbers.{done}
 
 -- settling and searching move no byte
 pub early_at :
@@ -51,9 +52,9 @@ early_at c t v {a = a} here busy rows two early =
 
 -- accepted, and not over with that
 pub record TakenUp (s : Scene) (command : Command) : Type 0 where
-  pub decodes : decoded_of s.machine.chip s.byte ≡ Taken command
+  pub decodes : decoded_of s.machine.chip s.byte ≡ Some command
   pub works : class_of command ≡ Works
-  pub accepted : (load_register s.machine s.lines 0 s.byte).number ≡ 0
+  pub accepted : (load_register s.machine s.lines 0 s.byte).outcome ≡ done
   pub stays : ends_at_once command s.lines ≡ false
 
 module _ {s : Scene} {command : Command} (g : TakenUp s command) where

@@ -1,16 +1,17 @@
 -- The bytes that go by between host and track, each in its byte time. Assumes nothing.
-use Rattle.std.specs.Prelude.{◌≡◌, Bool, true, false, cond, List, [], ◌∷◌, ◌++◌, ℕ, zero, suc, eqb}
+use Rattle.std.specs.Prelude.{◌≡◌, Bool, true, false, cond, List, [], ◌∷◌, ◌++◌, ℕ, zero, suc}
 use Rattle.activity.specs.declared.Deed.{Deed}
 use Rattle.activity.specs.declared.Deed.TheVariants.{Nothing, Deliver, Named, Matched, NotFound, Record, Written, Ask, Late, Take, Step, Halt}
 use Rattle.registers.specs.declared.Lines.{Lines}
 use Rattle.wd.specs.Turns.{does_of}
 use Rattle.wd.specs.Rows.{under, byte_time}
 use Rattle.hosts.specs.Hosts.{Host, Desk, served_at, at}
+use Rattle.std.specs.Result.{is_ok}
 
 -- what a byte time does that finds this desk: nothing where it is refused
 unfoldable pub deed_on : Lines → Desk → Deed
 deed_on l found =
-    cond (eqb (byte_time found.machine l found.row).number 0)
+    cond (is_ok (byte_time found.machine l found.row).outcome)
     (does_of found.machine l (under found.machine found.row)).deed
     Nothing
 

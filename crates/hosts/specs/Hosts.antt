@@ -6,6 +6,7 @@ use Rattle.wd.specs.declared.Machine.{Machine}
 use Rattle.wd.specs.Reads.{read_register}
 use Rattle.wd.specs.Loads.{load_register}
 use Rattle.wd.specs.Rows.{byte_time, byte_time_row}
+use Rattle.std.specs.Result.{is_ok}
 
 -- a register call, with its drive lines; a byte is below 256
 pub data Call : Type 0 where
@@ -19,7 +20,7 @@ called_of m (reads l number) = (read_register m l number).machine
 
 -- it is a command, and accepted
 unfoldable pub commands : Machine → Call → Bool
-commands m (loads l number b byte) = eqb number 0 && eqb (load_register m l number b).number 0
+commands m (loads l number b byte) = eqb number 0 && is_ok (load_register m l number b).outcome
 commands m (reads l number) = false
 
 -- calls one after another

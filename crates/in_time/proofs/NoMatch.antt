@@ -30,6 +30,7 @@ use Rattle.in_time.specs.Demand3.{InTimePremises, start_of, OnRing, FifthPulse}
 use Rattle.in_time.proofs.Demand3.{in_time}
 use Rattle.in_time.proofs.Scenes.{reader, scene_of, scene_asked, fresh, fresh_accepts}
 use Rattle.command.specs.Bits.{settles_first}
+use Rattle.refusals.specs.Numbers.{done}
 
 -- the fifth pulse on a ring of L cells
 pub fifth_is : (s : Scene) (L from before : ℕ)
@@ -80,7 +81,7 @@ module _ (L : ℕ) (some : 0 < L) where
   pub empty_nowhere : (s : Scene) → s.row ≡ empty_track L → OnRing s → ⊥
   empty_nowhere s e ring = no_mark s.machine.mfm ring.cell (rw e at ring.stands.mark)
 
-module _ (m : Machine) (size : m.ring.length ≡ sample_length) (accepted : (load_register m on 0 0x80).number ≡ 0) where
+module _ (m : Machine) (size : m.ring.length ≡ sample_length) (accepted : (load_register m on 0 0x80).outcome ≡ done) where
   empty_asked : InTimePremises (scene_of m empty)
   empty_asked = scene_asked m empty accepted (empty_length sample_length ∙ sym size) (low_empty sample_length)
 

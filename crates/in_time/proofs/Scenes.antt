@@ -8,7 +8,7 @@ use lib.ListN.{length, get_or}
 use Rattle.command.specs.Commands.{decoded_by_both, decoded_of}
 use Rattle.command.specs.declared.Chip.{Chip}
 use Rattle.command.specs.declared.Command.TheVariants.{ReadSector}
-use Rattle.command.specs.declared.Decoded.TheVariants.{Taken}
+use Rattle.std.specs.Prelude.{Some}
 use Rattle.common.specs.Bits.{bit_of}
 use Rattle.activity.specs.Limits.{busy_in, counts_within}
 use Rattle.scan.specs.Rows.{length_within}
@@ -22,6 +22,7 @@ use Rattle.hosts.specs.Hosts.{reads, commands, NoneAccepted, none, more, Host}
 use Rattle.hosts.specs.Scenes.{Scene}
 use Rattle.in_time.specs.Demand3.{InTimePremises}
 use Rattle.command.specs.Bits.{is_multiple}
+use Rattle.refusals.specs.Numbers.{done}
 
 abbrev pub reader : Host
 reader = record { calls = λ n. reads on 0 ∷ reads on 3 ∷ []; lines = λ n. on }
@@ -36,9 +37,9 @@ scene_by byte m row = record { machine = m; lines = on; byte = byte; row = row; 
 
 pub asked_by :
     (byte : ℕ) (m : Machine) (row : List ℕ)
-    → decoded_of m.chip byte ≡ Taken ReadSector
+    → decoded_of m.chip byte ≡ Some ReadSector
     → is_multiple byte ≡ false
-    → (load_register m on 0 byte).number ≡ 0
+    → (load_register m on 0 byte).outcome ≡ done
     → length row ≡ m.ring.length
     → ((i : ℕ) → i < length row → get_or row i 0 ≤ 511)
     → InTimePremises (scene_by byte m row)
@@ -60,7 +61,7 @@ scene_of = scene_by 0x80
 
 pub scene_asked :
     (m : Machine) (row : List ℕ)
-    → (load_register m on 0 0x80).number ≡ 0
+    → (load_register m on 0 0x80).outcome ≡ done
     → length row ≡ m.ring.length
     → ((i : ℕ) → i < length row → get_or row i 0 ≤ 511)
     → InTimePremises (scene_of m row)
@@ -71,7 +72,7 @@ scene_asked m row = asked_by 0x80 m row refl refl
 abbrev pub fresh : Bool → Chip → Machine
 fresh mfm chip = (power_on sample_length mfm chip).machine
 
-pub fresh_accepts : (mfm : Bool) (chip : Chip) → (load_register (fresh mfm chip) on 0 0x80).number ≡ 0
+pub fresh_accepts : (mfm : Bool) (chip : Chip) → (load_register (fresh mfm chip) on 0 0x80).outcome ≡ done
 unfolding load_register load_refusal guarded valid_of ring_within length_within counts_within busy_in power_on fresh_machine
     command_answer decoded_of decoded_by_both
 fresh_accepts mfm chip = refl

@@ -1,13 +1,12 @@
 -- Demand 3, "In time": its premises and its conclusion. The command itself, its host, how long it settles and
 -- which IDs match are of the crate `hosts`: `specs/Scenes.antt` and `specs/Hosts.antt`. Assumes nothing.
-use Rattle.std.specs.Prelude.{◌≡◌, Bool, true, false, cond, ◌⊎◌, ◌↔◌, ℕ, suc, ◌+◌, ◌*◌, ◌≤◌, ◌<◌, length, get_or}
+use Rattle.std.specs.Prelude.{◌≡◌, Bool, true, false, cond, ◌⊎◌, ◌↔◌, ℕ, suc, ◌+◌, ◌*◌, ◌≤◌, ◌<◌, length, get_or, Some}
 use Rattle.scan.specs.Marks.{lead_of}
 use Rattle.scan.specs.Streams.{MarkAt, IdAt, id_from, IdEnds}
 use Rattle.scan.specs.declared.Id.{Id}
 use Rattle.command.specs.Bits.{is_multiple}
 use Rattle.command.specs.Commands.{decoded_of}
 use Rattle.command.specs.declared.Command.TheVariants.{ReadSector}
-use Rattle.command.specs.declared.Decoded.TheVariants.{Taken}
 use Rattle.registers.specs.declared.Lines.{Lines}
 use Rattle.fields.specs.Rings.{cells_of}
 use Rattle.wd.specs.Loads.{load_register}
@@ -15,16 +14,17 @@ use Rattle.reachable.specs.ByteTimes.{turns_on}
 use Rattle.hosts.specs.Hosts.{BusyAt, Undisturbed, at, EndsAt}
 use Rattle.hosts.specs.Scenes.{Scene, loaded, settling, Suits, not_found}
 use Rattle.hosts.specs.Tracks.{position_at, passing, pulses_in}
+use Rattle.refusals.specs.Numbers.{done}
 
 -- ---- premises
 
 -- of a command, its host and its track
 pub record InTimePremises (s : Scene) : Type 0 where
   -- "take a single Read Sector": without m
-  pub reads : decoded_of s.machine.chip s.byte ≡ Taken ReadSector
+  pub reads : decoded_of s.machine.chip s.byte ≡ Some ReadSector
   pub single : is_multiple s.byte ≡ false
   -- "accepted with the drive ready"
-  pub accepted : (load_register s.machine s.lines 0 s.byte).number ≡ 0
+  pub accepted : (load_register s.machine s.lines 0 s.byte).outcome ≡ done
   pub ready : s.lines.ready ≡ true
   -- "the head-load line on throughout"
   pub hlt : (n : ℕ) → BusyAt s.host (loaded s) n → (s.host.lines n).hlt ≡ true

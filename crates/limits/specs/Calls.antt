@@ -5,6 +5,7 @@ use Rattle.activity.specs.declared.Activity.{Activity}
 use Rattle.registers.specs.declared.Lines.{Lines}
 use Rattle.registers.specs.declared.Ring.{Ring}
 use Rattle.wd.specs.declared.Machine.{Machine}
+use Rattle.refusals.specs.Numbers.{number_in}
 use Rattle.wd.specs.Machines.{power_on}
 use Rattle.wd.specs.Loads.{load_register}
 use Rattle.wd.specs.Reads.{read_register}
@@ -39,8 +40,8 @@ ready_lines = record { ready = true; protect = false; track0 = false; hlt = true
 -- the numbers that load, read, byte time and run give: DR is loaded and read, and the run is of one byte time
 unfoldable pub numbers_of : Machine → List ℕ → List ℕ
 numbers_of m row =
-    (load_register m ready_lines 3 0).number
-    ∷ (read_register m ready_lines 3).number
-    ∷ (byte_time m ready_lines row).number
-    ∷ (run_of m ready_lines 1 (byte_time_row m ready_lines row)).number
+    number_in (load_register m ready_lines 3 0).outcome
+    ∷ number_in (read_register m ready_lines 3).outcome
+    ∷ number_in (byte_time m ready_lines row).outcome
+    ∷ number_in (run_of m ready_lines 1 (byte_time_row m ready_lines row)).outcome
     ∷ []

@@ -12,27 +12,10 @@ use wd::Machine;
 pub fn machine(ring: Ring, activity: Activity) -> Machine
     ensures { result ≡ machine_with ring activity }
 {
-    let started = Machine::power_on(2048, true, Chip::Wd1793);
-    let fresh = started.machine;
-    let chip = fresh.chip;
-    let regs = fresh.regs;
-    let wires = fresh.wires;
-    let flags = fresh.flags;
-    let head = fresh.head;
-    let past = fresh.past;
-    let order = fresh.order;
     Machine {
         ring,
-        chip,
-        mfm: fresh.mfm,
-        sso: fresh.sso,
-        regs,
-        wires,
-        flags,
-        head,
-        past,
         activity,
-        order,
+        ..Machine::power_on(2048, true, Chip::Wd1793).machine
     }
 }
 
@@ -51,5 +34,10 @@ pub fn numbers(machine: Machine, row: &mut [u16]) -> [u8; 4]
     let read = machine.read_register(lines, 3);
     let passed = machine.byte_time(lines, row);
     let ran = machine.run(lines, 1, row);
-    [loaded.number, read.number, passed.number, ran.number]
+    [
+        refusals::number(loaded.outcome),
+        refusals::number(read.outcome),
+        refusals::number(passed.outcome),
+        refusals::number(ran.outcome),
+    ]
 }

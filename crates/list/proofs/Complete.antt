@@ -9,11 +9,11 @@ use native.Mathlib.Nat.{add-zero, mod-lt, mod-eq_of_lt, add-mod_left, add-mul-mo
 use native.Mathlib.Decide.{dec_lt}
 use native.Mathlib.Omega.{arith}
 use lib.ListN.{length, get_or, length-map}
+use Rattle.std.specs.Prelude.{Option, None, Some}
 use Rattle.scan.specs.declared.Id.{Id}
 use Rattle.scan.specs.Marks.{lead_of}
 use Rattle.scan.specs.Streams.{IdAt, id_from, id_width}
 use Rattle.fields.specs.declared.Found.{Found}
-use Rattle.fields.specs.declared.Found.TheVariants.{Nothing, At}
 use Rattle.fields.specs.Rings.{cells_of}
 use Rattle.fields.specs.DataMarks.{mark_behind}
 use Rattle.fields.specs.Rounds.{IdWithin, FirstId}
@@ -154,15 +154,15 @@ module _ (mfm : Bool) (row : List ℕ) (short : lead_of mfm ≤ length row) wher
   -- so many lines are enough: every ID has a cell of its own
   turn : (n from : ℕ) → length row - lead_of mfm ≤ from → end ≤ from + suc n + 6 + lead_of mfm
       → ((next : ℕ) → length row - lead_of mfm ≤ next → end ≤ next + n + 6 + lead_of mfm → Rest next (id_lines_from mfm row n next))
-      → (f : Found) → next_from mfm row from ≡ f
+      → (f : Option Found) → next_from mfm row from ≡ f
       → Rest from (id_lines_by mfm row (λ behind. id_lines_from mfm row n behind) f)
   unfolding id_lines_by
-  turn n from low enough rest Nothing e = none from ((no_id mfm row from end).0 e)
-  turn n from low enough rest (At id behind) e =
-      let (a, p, f) = (next_id_lem mfm row from end id behind).0 e in
+  turn n from low enough rest None e = none from ((no_id mfm row from end).0 e)
+  turn n from low enough rest (Some found) e =
+      let (a, p, f) = (next_id_lem mfm row from end found.id found.behind).0 e in
       let on : from ≤ a = f.within.low in
       rw (← p)
-      (more from a id low f (id_lines_from mfm row n (a + id_width mfm)) (rest (a + id_width mfm) (omega arith) (omega arith)))
+      (more from a found.id low f (id_lines_from mfm row n (a + id_width mfm)) (rest (a + id_width mfm) (omega arith) (omega arith)))
 
   lines_from : (n from : ℕ) → length row - lead_of mfm ≤ from → end ≤ from + n + 6 + lead_of mfm
       → Rest from (id_lines_from mfm row n from)

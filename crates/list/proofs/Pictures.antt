@@ -7,7 +7,8 @@ use Prim.Native.Nat.{ℕ, ◌≤◌}
 use native.Mathlib.Omega.{arith}
 use lib.ListN.{length, take}
 use lib.Seq.{length-take-le}
-use borrow.Author.Tests.{eq-eqb, ne_eqb}
+use Rattle.refusals.specs.Numbers.{number_in}
+use Rattle.refusals.proofs.Outcomes.{done-ok, not_done-ok, not_done-err, number_done, nonzero-done}
 use Rattle.scan.specs.Rows.{longest_row}
 use Rattle.picture.specs.declared.Answer.{Answer}
 use Rattle.picture.specs.declared.Shape.{Shape}
@@ -36,7 +37,7 @@ module _ (bytes room : List ℕ) where
       (omega (arith, room_length bytes room, (kind_length answer.kind).1))
 
   -- "F or M", "f and m", "track, side as one digit; IDs by cell of FE, round the ring", `ids` and how many
-  pub prints : length room ≡ longest_row → answer.number ≡ 0 → (fes : List ℕ) → ByCell shape.mfm row fes
+  pub prints : length room ≡ longest_row → number_in answer.outcome ≡ 0 → (fes : List ℕ) → ByCell shape.mfm row fes
       → picture_text bytes room
       ≡ head_text shape.letter answer.track answer.side
       ++ joined (map (id_line_at shape.mfm row) fes)
@@ -44,11 +45,14 @@ module _ (bytes room : List ℕ) where
   unfolding picture_text
   prints size taken fes by_cell =
       let long : 3 ≤ length row = omega (arith, row_length size, (kind_length answer.kind).0) in
-      rw (eq-eqb answer.number 0 taken)
+      rw (done-ok answer.outcome (number_done answer.outcome taken))
       (lists shape answer.track answer.side row fes long by_cell)
 
   -- "A refusal prints `refused` and its number, and ends the run."
-  pub refuses : answer.number ≢ 0
-      → (picture_text bytes room ≡ refusal_text answer.number) × (is_refused bytes (length room) ≡ true)
+  pub refuses : number_in answer.outcome ≢ 0
+      → (picture_text bytes room ≡ refusal_text (number_in answer.outcome)) × (is_refused bytes (length room) ≡ true)
   unfolding picture_text is_refused
-  refuses some = let test = ne_eqb answer.number 0 some in (simp test, simp test)
+  refuses some = let other = nonzero-done answer.outcome some in (
+    simp (not_done-ok answer.outcome other),
+    not_done-err answer.outcome other,
+  )

@@ -1,5 +1,5 @@
 -- A step of the program, by what its calls say. Assumes nothing.
-use mathlib.Core.Path.{◌≡◌, refl, sym, ap, ap₂, ◌∙◌}
+use mathlib.Core.Path.{◌≡◌, refl}
 use mathlib.Core.Bool.{true, false, ◌&&◌}
 use mathlib.Core.List.{List, []}
 use Prim.Native.Nat.{ℕ, ◌+◌, ◌-◌}
@@ -8,31 +8,32 @@ use lib.Dec.{eqb}
 use lib.ListN.{length, take}
 use lib.Seq.{length-take-le}
 use borrow.Author.Tests.{eqb-true}
-use Rattle.common.specs.Laid.{laid_row}
+use Rattle.std.proofs.Common.{Option, None, option_map}
 use Rattle.common.proofs.Cases.{both}
 use Rattle.picture.specs.Reader.{verdict_of, refused_by, answer_of, filled_of, reader_answer, reader_room}
-use Rattle.list.specs.declared.listing.Printed.{Printed}
 use Rattle.list.specs.declared.Run.{Run}
-use Rattle.list.specs.Input.{Filled, moved}
-use Rattle.list.specs.Lines.{Put}
-use Rattle.list.specs.Listing.{picture_text, is_refused, printed_of}
+use Rattle.list.specs.declared.buffers.Buffers.{Buffers}
+use Rattle.list.specs.Input.{Filled, input_left}
+use Rattle.list.specs.Listing.{picture_text, is_refused, taken_of}
 use Rattle.list.specs.Steps.{step_text, next_run, Stepped}
 
--- no byte is left: the reader refuses, writes nothing and takes nothing
-none_goes : (room written : ℕ) → record { held = 0; listed = true; over = true; written = written } ≡ next_run [] room written
-unfolding next_run is_refused reader_answer answer_of verdict_of refused_by
-none_goes room written = refl
+-- no byte is left: the reader refuses and writes nothing
+none_taken : (room : ℕ) → taken_of [] room ≡ None
+unfolding taken_of is_refused reader_answer answer_of verdict_of refused_by
+none_taken room = refl
 
 none_cells : (room : List ℕ) → room ≡ reader_room [] room
 unfolding reader_room filled_of verdict_of
 none_cells room = refl
 
-module _ (run : Run) (bytes room out filled : List ℕ) (held : ℕ) (fills : Filled bytes run.held filled held) where
+module _ (run : Run) (kept : ℕ) (before : Buffers) (filled : List ℕ) (held : ℕ) (fills : Filled before.input kept filled held) where
   -- the input is at its end after a picture
-  pub ended : (eqb held 0 && run.listed) ≡ true
-      → Stepped run bytes room out (record { held = held; listed = true; over = true; written = run.written }) filled room out
-  unfolding step_text laid_row
-  ended over =
+  pub ended : (page : List ℕ) → page ≡ [] → (eqb held 0 && run.listed) ≡ true
+      → Stepped run kept before
+      (record { held = None; listed = run.listed; written = run.written })
+      (record { input = filled; cells = before.cells; page = page })
+  unfolding step_text next_run input_left
+  ended page empty over =
       let parts = both (eqb held 0) run.listed over in
       let none : held ≡ 0 = eqb-true held 0 parts.0 in
       record {
@@ -41,44 +42,34 @@ module _ (run : Run) (bytes room out filled : List ℕ) (held : ℕ) (fills : Fi
         fills = fills;
         printed = [];
         says = rw (none, parts.1) refl;
-        goes = rw (none, add-zero) (none_goes (length room) run.written);
-        left = rw none refl;
-        cells = rw none (none_cells room);
-        text = refl;
+        goes = rw (none, parts.1, none_taken, add-zero) refl;
+        left = rw (none, none_taken) refl;
+        cells = rw none (none_cells before.cells);
+        text = empty;
       }
 
   -- the next picture is listed or refused
   pub listed :
-      (printed : Printed) (count left : ℕ) (bytes' room' out' : List ℕ)
+      (taken left : Option ℕ) (count : ℕ) (after : Buffers)
       → (eqb held 0 && run.listed) ≡ false
-      → printed ≡ printed_of (take held filled) room
-      → Put out 0 (picture_text (take held filled) room) out' printed.at
-      → count ≡ printed.at
-      → room' ≡ reader_room (take held filled) room
-      → left ≡ held - printed.taken
-      → bytes' ≡ moved filled printed.taken (held - printed.taken)
-      → Stepped run bytes room out
-      (record { held = left; listed = true; over = printed.refused; written = run.written + count })
-      bytes' room' out'
-  unfolding step_text next_run printed_of
-  listed printed count left bytes' room' out' test is put all_printed cells behind moves =
+      → taken ≡ taken_of (take held filled) (length before.cells)
+      → after.page ≡ picture_text (take held filled) before.cells
+      → after.cells ≡ reader_room (take held filled) before.cells
+      → count ≡ length after.page
+      → left ≡ option_map (λ n. held - n) taken
+      → after.input ≡ input_left filled held taken
+      → Stepped run kept before (record { held = left; listed = true; written = run.written + count }) after
+  unfolding step_text next_run
+  listed taken left count after test is page cells all_printed behind moves =
       let all : length (take held filled) ≡ held = length-take-le held filled fills.within in
-      let taken : printed.taken ≡ (reader_answer (take held filled) (length room)).taken = ap (λ (p : Printed). p.taken) is in
-      let there : step_text run.listed (take held filled) room ≡ picture_text (take held filled) room = rw (all, test) refl in
       record {
         filled = filled;
         held = held;
         fills = fills;
-        printed = picture_text (take held filled) room;
-        says = sym there;
-        goes = λ i.
-            record {
-              held = (behind ∙ ap₂ (λ (n m : ℕ). n - m) (sym all) taken) i;
-              listed = true;
-              over = (is i).refused;
-              written = run.written + (all_printed ∙ ap (λ (p : Printed). p.at) is) i;
-            };
-        left = moves ∙ ap₂ (λ (n m : ℕ). moved filled n m) taken (sym behind);
+        printed = after.page;
+        says = rw (all, test) page;
+        goes = rw (behind, all_printed, is, all) refl;
+        left = rw is at moves;
         cells = cells;
-        text = put.buffer;
+        text = refl;
       }

@@ -1,5 +1,5 @@
 -- The buffer of the input. Assumes nothing.
-use Rattle.std.specs.Prelude.{◌≡◌, List, ℕ, ◌+◌, ◌≤◌, length, get_or, take}
+use Rattle.std.specs.Prelude.{◌≡◌, List, Option, Some, None, ℕ, ◌+◌, ◌-◌, ◌≤◌, length, get_or, take}
 use Rattle.common.specs.Laid.{laid_row}
 
 -- a buffer `before` with so many bytes held at its front is read on into: it becomes `after`, and `held` bytes are held then.
@@ -13,3 +13,9 @@ pub record Filled (before : List ℕ) (kept : ℕ) (after : List ℕ) (held : �
 -- so many bytes from a place on, moved to the front
 abbrev pub moved : List ℕ → ℕ → ℕ → List ℕ
 moved buffer from n = laid_row buffer (λ i. i) (λ i. get_or buffer (from + i) 0) n
+
+-- the buffer, of which so many bytes are held, after a picture: the bytes after the picture's move to the front, and where it
+-- is refused all stay
+unfoldable pub input_left : List ℕ → ℕ → Option ℕ → List ℕ
+input_left buffer held None = buffer
+input_left buffer held (Some taken) = moved buffer taken (held - taken)

@@ -1,17 +1,10 @@
 -- The lines of document 01, "Pictures and the viewer", as bytes of ASCII. Assumes nothing.
-use Rattle.std.specs.Prelude.{◌≡◌, Bool, cond, List, [], ◌∷◌, ◌++◌, ℕ, ◌+◌, ◌/◌, length}
-use Rattle.std.proofs.lemmas.List.Edits.{sets}
+use Rattle.std.specs.Prelude.{Bool, cond, List, [], ◌∷◌, ◌++◌, ℕ, ◌/◌, Option, Some, None}
 use Rattle.text.specs.Hex.{digit_of}
 use Rattle.text.specs.Decimal.{decimal_of}
 use Rattle.scan.specs.declared.Id.{Id}
 use Rattle.scan.specs.DataMarks.{mark_byte}
-use Rattle.fields.specs.declared.Behind.{Behind}
-use Rattle.fields.specs.declared.Behind.TheVariants.{Nothing, Mark}
-
--- a buffer `before`, with a text put into it from a place on, is `after`, and the place after the text is `next`
-pub record Put (before : List ℕ) (at : ℕ) (text after : List ℕ) (next : ℕ) : Type 0 where
-  pub place : next ≡ at + length text
-  pub buffer : after ≡ sets before at text
+use Rattle.fields.specs.declared.Marked.{Marked}
 
 abbrev pub space : ℕ
 space = 0x20
@@ -34,12 +27,12 @@ crc_text good =
     cond good (space ∷ 0x67 ∷ 0x6F ∷ 0x6F ∷ 0x64 ∷ []) (space ∷ 0x62 ∷ 0x61 ∷ 0x64 ∷ [])
 
 -- "data mark FB, F8 or none", and "the list, which prints F9 or FA": the byte of the mark, or ` none`
-unfoldable pub mark_text : Behind → List ℕ
-mark_text Nothing = space ∷ 0x6E ∷ 0x6F ∷ 0x6E ∷ 0x65 ∷ []
-mark_text (Mark mark cell) = byte_text (mark_byte mark)
+unfoldable pub mark_text : Option Marked → List ℕ
+mark_text None = space ∷ 0x6E ∷ 0x6F ∷ 0x6E ∷ 0x65 ∷ []
+mark_text (Some marked) = byte_text (mark_byte marked.mark)
 
 -- "cell in decimal, four bytes, CRC good or bad, data mark .."
-unfoldable pub id_text : ℕ → Id → Behind → List ℕ
+unfoldable pub id_text : ℕ → Id → Option Marked → List ℕ
 id_text cell id behind =
     decimal_of cell
     ++ byte_text id.track

@@ -1,16 +1,15 @@
 -- The listing of a picture, document 01, "Pictures and the viewer". Assumes nothing.
-use Rattle.std.specs.Prelude.{Bool, cond, not, List, [], ◌∷◌, ◌++◌, ℕ, zero, suc, ◌+◌, ◌-◌, ◌*◌, eqb, length, take}
+use Rattle.std.specs.Prelude.{Bool, cond, List, [], ◌∷◌, ◌++◌, Option, Some, None, ℕ, zero, suc, ◌+◌, ◌-◌, ◌*◌, length, take, is_ok, is_err}
+use Rattle.refusals.specs.Numbers.{number_in}
 use Rattle.scan.specs.declared.Id.{Id}
 use Rattle.scan.specs.Rows.{longest_row}
 use Rattle.scan.specs.Marks.{lead_of}
 use Rattle.fields.specs.declared.Found.{Found}
-use Rattle.fields.specs.declared.Found.TheVariants.{Nothing, At}
 use Rattle.fields.specs.Ids.{next_id}
 use Rattle.fields.specs.DataMarks.{mark_behind}
 use Rattle.picture.specs.declared.Shape.{Shape}
 use Rattle.picture.specs.Kinds.{shape_of, length_of}
 use Rattle.picture.specs.Reader.{reader_answer, reader_room}
-use Rattle.list.specs.declared.listing.Printed.{Printed}
 use Rattle.list.specs.Lines.{head_text, id_text, count_text, refusal_text}
 
 -- the line of an ID, by the place after it: its FE stands seven places before, and the round one turn of the ring on
@@ -19,11 +18,11 @@ id_line mfm row id behind = id_text (behind - 7 - length row) id (mark_behind mf
 
 -- "IDs by cell of FE, round the ring": at most n lines, of the IDs that stand from a place on, up to six cells after the
 -- round
-unfoldable pub id_lines_by : Bool → List ℕ → (ℕ → List (List ℕ)) → Found → List (List ℕ)
-id_lines_by mfm row more Nothing = []
-id_lines_by mfm row more (At id behind) = id_line mfm row id behind ∷ more behind
+unfoldable pub id_lines_by : Bool → List ℕ → (ℕ → List (List ℕ)) → Option Found → List (List ℕ)
+id_lines_by mfm row more None = []
+id_lines_by mfm row more (Some found) = id_line mfm row found.id found.behind ∷ more found.behind
 
-abbrev pub next_from : Bool → List ℕ → ℕ → Found
+abbrev pub next_from : Bool → List ℕ → ℕ → Option Found
 next_from mfm row from = next_id mfm row from (length row + length row + 6)
 
 unfoldable pub id_lines_from : Bool → List ℕ → ℕ → ℕ → List (List ℕ)
@@ -55,19 +54,14 @@ listing_room = 7 + (longest_row + 9) * 4 + 10
 unfoldable pub picture_text : List ℕ → List ℕ → List ℕ
 picture_text bytes room =
     let a = reader_answer bytes (length room) in
-    cond (eqb a.number 0)
+    cond (is_ok a.outcome)
     (listing_text (shape_of a.kind) a.track a.side (take (length_of a.kind) (reader_room bytes room)))
-    (refusal_text a.number)
+    (refusal_text (number_in a.outcome))
 
 -- "A refusal .. ends the run": whether the first picture of some bytes is refused, by whatever number
 unfoldable pub is_refused : List ℕ → ℕ → Bool
-is_refused bytes room = not (eqb (reader_answer bytes room).number 0)
+is_refused bytes room = is_err (reader_answer bytes room).outcome
 
--- what comes of the first picture: its text stands from the buffer's start on, the next picture begins after its bytes
-unfoldable pub printed_of : List ℕ → List ℕ → Printed
-printed_of bytes room =
-    record {
-      at = length (picture_text bytes room);
-      taken = (reader_answer bytes (length room)).taken;
-      refused = is_refused bytes (length room);
-    }
+-- how many bytes the first picture has, and nothing where it is refused
+unfoldable pub taken_of : List ℕ → ℕ → Option ℕ
+taken_of bytes room = cond (is_refused bytes room) None (Some (reader_answer bytes room).taken)

@@ -1,117 +1,117 @@
-// The lines that the program prints. Each function puts its text into a lent buffer from a place on, and hands back the
-// place after it.
-ghost use Rattle.std.specs.Prelude.{◌≡◌, ◌+◌, ◌≤◌, length};
+// The lines that the program prints, put on a page. The digits are those of `text`, whose contracts say which bytes they are;
+// `write!` would say it by way of a formatter's options.
+ghost use Rattle.std.specs.Prelude.{◌≡◌, ◌+◌, ◌≤◌, [], ◌∷◌, ◌++◌, length};
+ghost use Rattle.refusals.specs.Numbers.{number_of};
 ghost use Rattle.text.specs.Decimal.{decimal_of};
-ghost use Rattle.list.specs.Lines.{Put, head_text, byte_text, crc_text, mark_text, id_text, count_text, refusal_text};
+ghost use Rattle.list.specs.Listing.{listing_room};
+ghost use Rattle.list.specs.Lines.{newline, head_text, byte_text, crc_text, mark_text, id_text, count_text, refusal_text};
 
-use fields::Behind;
+use crate::page::Page;
+use fields::Marked;
+use refusals::Refusal;
 use scan::Id;
 
-// The bytes of a piece.
-fn put_all(out: &mut [u8], at: usize, piece: &[u8]) -> usize
-    requires { at + length piece.now ≤ length out.old }
-    ensures { Put out.old at piece.now out.new result }
-{
-    let mut i = 0;
-    while i < piece.len() {
-        out[at + i] = piece[i];
-        i += 1;
+impl Page {
+    // A space and two hexadecimal digits.
+    #[tactic(auto, unfolding(crate::specs::Lines::byte_text, text::specs::Hex::hex_of))]
+    fn put_byte(&mut self, byte: u8)
+        requires { length self.old + 3 ≤ listing_room }
+        ensures put { self.new ≡ self.old ++ byte_text byte }
+        ensures bound { length self.new ≤ length self.old + 3 }
+    {
+        let hex = text::hex(byte as u16);
+        self.put(&[b' ', hex[2], hex[3]]);
     }
-    at + i
-}
 
-// A space and two hexadecimal digits.
-#[tactic(auto, unfolding(crate::specs::Lines::byte_text, text::specs::Hex::hex_of))]
-fn put_byte(out: &mut [u8], at: usize, byte: u8) -> usize
-    requires { at + 3 ≤ length out.old }
-    ensures put { Put out.old at (byte_text byte) out.new result }
-    ensures upper_bound { result ≤ at + 3 }
-{
-    let hex = text::hex(byte as u16);
-    put_all(out, at, &[b' ', hex[2], hex[3]])
-}
-
-// A number in decimal.
-fn put_decimal(out: &mut [u8], at: usize, n: u16) -> usize
-    requires { at + 5 ≤ length out.old }
-    ensures put { Put out.old at (decimal_of n) out.new result }
-    ensures upper_bound { result ≤ at + 5 }
-{
-    let figures = text::figures(n);
-    let from = 5 - text::places(n);
-    put_all(out, at, &figures[from..])
-}
-
-// A picture's first line: the letter of its shape, track and side.
-#[tactic(auto, unfolding(crate::specs::Lines::head_text, text::specs::Hex::hex_of))]
-pub fn put_head(out: &mut [u8], at: usize, letter: u8, track: u8, side: u8) -> usize
-    requires { at + 7 ≤ length out.old }
-    ensures put { Put out.old at (head_text letter track side) out.new result }
-    ensures upper_bound { result ≤ at + 7 }
-{
-    let hex = text::hex(track as u16);
-    let digit = text::digit(side as u16);
-    put_all(out, at, &[letter, b' ', hex[2], hex[3], b' ', digit, b'\n'])
-}
-
-#[tactic(auto, unfolding(crate::specs::Lines::crc_text))]
-fn put_verdict(out: &mut [u8], at: usize, good: bool) -> usize
-    requires { at + 5 ≤ length out.old }
-    ensures put { Put out.old at (crc_text good) out.new result }
-    ensures upper_bound { result ≤ at + 5 }
-{
-    if good {
-        return put_all(out, at, b" good");
+    // A number in decimal.
+    #[tactic(auto, unfolding(text::specs::Decimal::decimal_of, text::specs::Decimal::figures_of))]
+    fn put_decimal(&mut self, n: u16)
+        requires { length self.old + 5 ≤ listing_room }
+        ensures put { self.new ≡ self.old ++ decimal_of n }
+        ensures bound { length self.new ≤ length self.old + 5 }
+    {
+        let figures = text::figures(n);
+        self.put(&figures[5 - text::places(n)..]);
     }
-    put_all(out, at, b" bad")
-}
 
-#[tactic(auto, unfolding(crate::specs::Lines::mark_text))]
-fn put_mark(out: &mut [u8], at: usize, behind: Behind) -> usize
-    requires { at + 5 ≤ length out.old }
-    ensures put { Put out.old at (mark_text behind) out.new result }
-    ensures upper_bound { result ≤ at + 5 }
-{
-    match behind {
-        Behind::Nothing => put_all(out, at, b" none"),
-        Behind::Mark { mark, cell: _ } => put_byte(out, at, scan::mark_byte(mark)),
+    // A picture's first line: the letter of its shape, track and side.
+    #[tactic(auto, unfolding(crate::specs::Lines::head_text, text::specs::Hex::hex_of))]
+    pub fn put_head(&mut self, letter: u8, track: u8, side: u8)
+        requires { length self.old + 7 ≤ listing_room }
+        ensures put { self.new ≡ self.old ++ head_text letter track side }
+        ensures bound { length self.new ≤ length self.old + 7 }
+    {
+        let hex = text::hex(track as u16);
+        let digit = text::digit(side as u16);
+        self.put(&[letter, b' ', hex[2], hex[3], b' ', digit, b'\n']);
     }
-}
 
-// An ID's line: the cell of its FE, its four bytes, its CRC and its data mark.
-pub fn put_id(out: &mut [u8], at: usize, cell: u16, id: Id, behind: Behind) -> usize
-    requires { at + 28 ≤ length out.old }
-    ensures put { Put out.old at (id_text cell id behind) out.new result }
-    ensures upper_bound { result ≤ at + 28 }
-{
-    let at = put_decimal(out, at, cell);
-    let at = put_byte(out, at, id.track);
-    let at = put_byte(out, at, id.side);
-    let at = put_byte(out, at, id.sector);
-    let at = put_byte(out, at, id.length);
-    let at = put_verdict(out, at, id.good);
-    let at = put_mark(out, at, behind);
-    put_all(out, at, b"\n")
-}
+    #[tactic(auto, unfolding(crate::specs::Lines::crc_text))]
+    fn put_verdict(&mut self, good: bool)
+        requires { length self.old + 5 ≤ listing_room }
+        ensures put { self.new ≡ self.old ++ crc_text good }
+        ensures bound { length self.new ≤ length self.old + 5 }
+    {
+        self.put(if good { b" good" } else { b" bad" });
+    }
 
-// A picture's last line: how many IDs it has.
-pub fn put_count(out: &mut [u8], at: usize, ids: u16) -> usize
-    requires { at + 10 ≤ length out.old }
-    ensures put { Put out.old at (count_text ids) out.new result }
-    ensures upper_bound { result ≤ at + 10 }
-{
-    let at = put_all(out, at, b"ids ");
-    let at = put_decimal(out, at, ids);
-    put_all(out, at, b"\n")
-}
+    #[tactic(auto, unfolding(crate::specs::Lines::mark_text))]
+    fn put_mark(&mut self, behind: Option<Marked>)
+        requires { length self.old + 5 ≤ listing_room }
+        ensures put { self.new ≡ self.old ++ mark_text behind }
+        ensures bound { length self.new ≤ length self.old + 5 }
+    {
+        match behind {
+            None => self.put(b" none"),
+            Some(marked) => self.put_byte(marked.mark.byte()),
+        }
+    }
 
-// The line of a refusal.
-pub fn put_refused(out: &mut [u8], at: usize, number: u8) -> usize
-    requires { at + 14 ≤ length out.old }
-    ensures put { Put out.old at (refusal_text number) out.new result }
-    ensures upper_bound { result ≤ at + 14 }
-{
-    let at = put_all(out, at, b"refused ");
-    let at = put_decimal(out, at, number as u16);
-    put_all(out, at, b"\n")
+    // An ID's line: the cell of its FE, its four bytes, its CRC and its data mark.
+    #[tactic(auto, unfolding(crate::specs::Lines::id_text))]
+    pub fn put_id(&mut self, cell: u16, id: Id, behind: Option<Marked>)
+        requires { length self.old + 28 ≤ listing_room }
+        ensures put { self.new ≡ self.old ++ id_text cell id behind }
+        ensures bound { length self.new ≤ length self.old + 28 }
+    {
+        self.put_decimal(cell);
+        self.put_byte(id.track);
+        self.put_byte(id.side);
+        self.put_byte(id.sector);
+        self.put_byte(id.length);
+        self.put_verdict(id.good);
+        self.put_mark(behind);
+        self.put(b"\n");
+    }
+
+    // A line of a word and a number.
+    fn put_numbered(&mut self, word: &[u8], n: u16)
+        requires { length self.old + length word.now + 6 ≤ listing_room }
+        ensures put { self.new ≡ self.old ++ word.now ++ decimal_of n ++ newline ∷ [] }
+        ensures bound { length self.new ≤ length self.old + length word.now + 6 }
+    {
+        self.put(word);
+        self.put_decimal(n);
+        self.put(b"\n");
+    }
+
+    // A picture's last line: how many IDs it has.
+    #[tactic(auto, unfolding(crate::specs::Lines::count_text))]
+    pub fn put_count(&mut self, ids: u16)
+        requires { length self.old + 10 ≤ listing_room }
+        ensures put { self.new ≡ self.old ++ count_text ids }
+        ensures bound { length self.new ≤ length self.old + 10 }
+    {
+        self.put_numbered(b"ids ", ids);
+    }
+
+    // The line of a refusal.
+    #[tactic(auto, unfolding(crate::specs::Lines::refusal_text))]
+    pub fn put_refused(&mut self, refusal: Refusal)
+        requires { length self.old + 14 ≤ listing_room }
+        ensures put { self.new ≡ self.old ++ refusal_text (number_of refusal) }
+        ensures bound { length self.new ≤ length self.old + 14 }
+    {
+        self.put_numbered(b"refused ", refusal.number() as u16);
+    }
 }

@@ -1,21 +1,13 @@
 // What the program prints of a picture.
-ghost use Rattle.std.specs.Prelude.{◌≡◌, ◌+◌, ◌-◌, ◌*◌, ◌≤◌, length};
+ghost use Rattle.std.specs.Prelude.{◌≡◌, ◌+◌, ◌-◌, ◌*◌, ◌≤◌, [], ◌++◌, length, IfSome};
 ghost use Rattle.scan.specs.Rows.{longest_row};
 ghost use Rattle.scan.specs.Marks.{lead_of};
 ghost use Rattle.picture.specs.Reader.{reader_room};
-ghost use Rattle.list.specs.Lines.{Put};
-ghost use Rattle.list.specs.Listing.{joined, id_lines, listing_text, listing_room, picture_text, printed_of};
+ghost use Rattle.list.specs.Listing.{listing_room, joined, id_lines, listing_text, picture_text, taken_of};
 
-use crate::lines;
+use crate::page::Page;
 use fields::Found;
 use picture::Shape;
-
-// The place after the lines, and how many they are.
-#[derive(Clone, Copy)]
-pub struct Listed {
-    pub at: usize,
-    pub ids: u16,
-}
 
 // Where the round begins: the lead of a mark whose byte is cell 0 stands at the ring's end.
 #[tactic(auto, unfolding(scan::specs::Marks::lead_of))]
@@ -29,79 +21,67 @@ fn round_start(mfm: bool, size: u32) -> u32
     size
 }
 
-// A line for each ID, by the cell of its FE, round the ring.
-fn put_ids(out: &mut [u8], at: usize, mfm: bool, row: &[u16]) -> Listed
+// Puts a line for each ID, by the cell of its FE, round the ring, and hands back how many they are.
+#[tactic(auto, using(crate::proofs::Rounds::left_found, crate::proofs::Rounds::left_none, crate::proofs::Rounds::left_all))]
+fn put_ids(page: &mut Page, mfm: bool, row: &[u16]) -> u16
     requires in_bounds { (3 ≤ length row.now) × (length row.now ≤ longest_row) }
-    requires row_in_bounds { at + (length row.now + 9) * 4 ≤ length out.old }
-    ensures put { Put out.old at (joined (id_lines mfm row.now)) out.new result.at }
-    ensures ids_value { result.ids ≡ length (id_lines mfm row.now) }
-    ensures at_bound { result.at ≤ at + (length row.now + 9) * 4 }
+    requires room { length page.old + (length row.now + 9) * 4 ≤ listing_room }
+    ensures put { page.new ≡ page.old ++ joined (id_lines mfm row.now) }
+    ensures ids_value { result ≡ length (id_lines mfm row.now) }
+    ensures bound { length page.new ≤ length page.old + (length row.now + 9) * 4 }
 {
     let size = row.len() as u32;
     let mut from = round_start(mfm, size);
-    let mut next = at;
-    let mut ids = 0;
-    while (ids as usize) < row.len() {
+    for ids in 0..size as u16 {
         match fields::next_id(row, mfm, from, size + size + 6) {
-            Found::Nothing => {
-                return Listed { at: next, ids };
+            None => {
+                return ids;
             }
-            Found::At { id, behind } => {
+            Some(Found { id, behind }) => {
                 let mark = fields::mark_behind(row, mfm, behind);
-                next = lines::put_id(out, next, (behind - 7 - size) as u16, id, mark);
+                page.put_id((behind - 7 - size) as u16, id, mark);
                 from = behind;
             }
         }
-        ids += 1;
     }
-    Listed { at: next, ids }
+    size as u16
 }
 
-// The whole listing of a picture: its head, a line for each ID, their count. Hands back the place after it.
-pub fn put_listing(out: &mut [u8], shape: Shape, track: u8, side: u8, row: &[u16]) -> usize
+// Puts the whole listing of a picture: its head, a line for each ID, their count.
+#[tactic(auto, unfolding(crate::specs::Listing::listing_text))]
+fn put_listing(page: &mut Page, shape: Shape, track: u8, side: u8, row: &[u16])
     requires in_bounds { (3 ≤ length row.now) × (length row.now ≤ longest_row) }
-    requires listing_room_in_bounds { listing_room ≤ length out.old }
-    ensures put { Put out.old 0 (listing_text shape track side row.now) out.new result }
-    ensures upper_bound { result ≤ listing_room }
+    requires empty { page.old ≡ [] }
+    ensures { page.new ≡ listing_text shape track side row.now }
 {
-    let at = lines::put_head(out, 0, shape.letter, track, side);
-    let listed = put_ids(out, at, shape.mfm, row);
-    lines::put_count(out, listed.at, listed.ids)
+    page.put_head(shape.letter, track, side);
+    let ids = put_ids(page, shape.mfm, row);
+    page.put_count(ids);
 }
 
-// What comes of a picture: so many bytes of output, so many of input taken, and whether it was refused.
-#[derive(Clone, Copy)]
-pub struct Printed {
-    pub at: usize,
-    pub taken: usize,
-    pub refused: bool,
-}
-
-// What is printed of the first picture of the bytes: its listing, or its refusal.
-pub fn put_picture(out: &mut [u8], bytes: &[u8], room: &mut [u16]) -> Printed
-    requires { (length room.old ≡ longest_row) × (listing_room ≤ length out.old) }
-    ensures value { result ≡ printed_of bytes.now room.old }
-    ensures put { Put out.old 0 (picture_text bytes.now room.old)
-        out.new result.at }
+// Puts what is printed of the first picture of the bytes on the page, in place of what is there: its listing, or its refusal. Hands
+// back how many bytes the picture has, and nothing where it is refused.
+#[tactic(auto, using(picture::proofs::Laws::taken_within), unfolding(crate::specs::Listing::picture_text, crate::specs::Listing::is_refused, crate::specs::Listing::taken_of, refusals::specs::Numbers::number_in))]
+pub fn put_picture(page: &mut Page, bytes: &[u8], room: &mut [u16]) -> Option<usize>
+    requires { length room.old ≡ longest_row }
+    ensures value { result ≡ taken_of bytes.now (length room.old) }
+    ensures put { page.new ≡ picture_text bytes.now room.old }
     ensures room_after { room.new ≡ reader_room bytes.now room.old }
-    ensures at_bound { (result.at ≤ listing_room) × (result.taken ≤ length bytes.now) }
+    ensures bound { IfSome result (λ taken. taken ≤ length bytes.now) }
 {
+    page.clear();
     let answer = picture::read(bytes, room);
-    if answer.number != 0 {
-        let at = lines::put_refused(out, 0, answer.number);
-        return Printed {
-            at,
-            taken: answer.taken,
-            refused: true,
-        };
+    if let Err(refusal) = answer.outcome {
+        page.put_refused(refusal);
+        return None;
     }
-    let kind = answer.kind;
-    let shape = kind.shape();
-    let cells = shape.length;
-    let at = put_listing(out, shape, answer.track, answer.side, &room[..cells]);
-    Printed {
-        at,
-        taken: answer.taken,
-        refused: false,
-    }
+    let shape = answer.kind.shape();
+    put_listing(
+        page,
+        shape,
+        answer.track,
+        answer.side,
+        &room[..shape.length],
+    );
+    Some(answer.taken)
 }

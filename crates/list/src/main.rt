@@ -1,106 +1,96 @@
 // Lists the IDs of the pictures on standard input, one picture after another.
 #![tactic(auto)]
 
-ghost use Rattle.std.specs.Prelude.{◌≡◌, ◌+◌, ◌^◌, ◌≤◌, ◌<◌, length};
-ghost use Rattle.scan.specs.Rows.{longest_row};
+ghost use Rattle.std.specs.Prelude.{◌≡◌, ◌+◌, ◌^◌, ◌≤◌, ◌<◌, length, IfSome};
 ghost use Rattle.picture.specs.Layout.{longest_picture};
 ghost use Rattle.list.specs.Listing.{listing_room};
 ghost use Rattle.list.specs.Steps.{Stepped};
 ghost use Rattle.list.specs.Runs.{WholeRun};
 
+mod buffers;
 mod input;
 mod lines;
 mod listing;
+mod page;
 mod streams;
 
+use buffers::Buffers;
+use page::Page;
 use std::io;
 use streams::Streams;
 
-// A proved loop has to end, and nothing says that the input does: so the pictures are counted down, from a number that no input
+// A proved loop has to end, and nothing says that the input does: so the pictures are counted, up to a number that no input
 // uses up. What is printed of so many can still be counted.
 const MOST_PICTURES: u64 = 0x1000000000000;
 
-// Room for what is printed of a picture.
-const OUTPUT_ROOM: usize = 65536;
-
-// How far the run has come: so many bytes of the input are held, whether a picture was listed, whether the run is over, and how
-// many bytes were handed to the C library to be written.
+// How far the run has come: how many bytes of the input are held for the next picture, where the run goes on; whether a picture
+// was listed; and how many bytes were handed to the C library to be written.
 #[derive(Clone, Copy)]
 struct Run {
-    held: usize,
+    held: Option<usize>,
     listed: bool,
-    over: bool,
     written: u64,
 }
 
-// Hands the first bytes of the output to the C library, and hands back how many they were.
-fn flush(streams: &mut Streams, out: &[u8], count: usize) -> usize
-    requires { count ≤ length out.now }
-    ensures { result ≡ count }
+// Hands the text of a page to the C library, and hands back how many bytes it has.
+fn flush(streams: &mut Streams, page: &Page) -> usize
+    ensures value { result ≡ length page.now }
+    ensures bound { result ≤ listing_room }
 {
-    let text = &out[..count];
+    let text = page.text();
     streams.write(text);
     text.len()
 }
 
-// The next picture, where one begins: "only wholly empty input is 9 at a picture's start".
-fn step(streams: &mut Streams, run: Run, bytes: &mut [u8], room: &mut [u16], out: &mut [u8]) -> Run
-    requires held_in_bounds { (run.held ≤ length bytes.old) × ((length room.old ≡ longest_row) × (listing_room ≤ length out.old)) }
+// The next picture, where one begins, from the bytes held: "only wholly empty input is 9 at a picture's start".
+fn step(streams: &mut Streams, run: Run, held: usize, buffers: &mut Buffers) -> Run
+    requires held_in_bounds { held ≤ length buffers.old.input }
     requires listing_room_bound { run.written + listing_room < 2 ^ 64 }
-    ensures stepped { Stepped run bytes.old room.old out.old result
-        bytes.new room.new out.new }
-    ensures held_bound { (result.held ≤ length bytes.new) × (result.written ≤ run.written + listing_room) }
+    ensures stepped { Stepped run held buffers.old result buffers.new }
+    ensures held_bound { IfSome result.held (λ left. left ≤ length buffers.new.input) }
+    ensures written_bound { result.written ≤ run.written + listing_room }
 {
-    let held = input::fill(streams, bytes, run.held);
+    let held = input::fill(streams, &mut buffers.input, held);
     if (held == 0) & run.listed {
-        return Run {
-            held,
-            listed: true,
-            over: true,
-            written: run.written,
-        };
+        buffers.page.clear();
+        return Run { held: None, ..run };
     }
-    let printed = listing::put_picture(out, &bytes[..held], room);
-    let count = flush(streams, out, printed.at);
-    let left = input::keep(bytes, printed.taken, held);
+    let taken = listing::put_picture(
+        &mut buffers.page,
+        &buffers.input[..held],
+        &mut buffers.cells,
+    );
+    let count = flush(streams, &buffers.page);
     Run {
-        held: left,
+        held: input::keep(&mut buffers.input, taken, held),
         listed: true,
-        over: printed.refused,
         written: run.written + count as u64,
     }
 }
 
 // Lists all pictures, and hands back how many bytes it wrote. The buffer of the input holds a whole picture of every kind, so one that
 // ends early there has ended with the input.
-fn list(streams: &mut Streams, bytes: &mut [u8], room: &mut [u16], out: &mut [u8]) -> u64
-    requires longest_picture_in_bounds { longest_picture ≤ length bytes.old }
-    requires room_len { (length room.old ≡ longest_row) × (listing_room ≤ length out.old) }
-    ensures { WholeRun bytes.old room.old out.old result
-        bytes.new room.new out.new }
+fn list(streams: &mut Streams, buffers: &mut Buffers) -> u64
+    requires { longest_picture ≤ length buffers.old.input }
+    ensures { WholeRun buffers.old result buffers.new }
 {
     let mut run = Run {
-        held: 0,
+        held: Some(0),
         listed: false,
-        over: false,
         written: 0,
     };
-    let mut left = MOST_PICTURES;
-    while 0 < left {
-        if run.over {
-            return run.written;
-        }
-        run = step(streams, run, bytes, room, out);
-        left -= 1;
+    for _ in 0..MOST_PICTURES {
+        let Some(held) = run.held else {
+            break;
+        };
+        run = step(streams, run, held, buffers);
     }
     run.written
 }
 
 fn main(rt: HostRuntime) -> io::Result<()> {
     let mut streams = Streams::new(rt.stdin(), rt.stdout());
-    let mut bytes = [0u8; picture::LONGEST];
-    let mut room = [0u16; scan::LONGEST_ROW];
-    let mut out = [0u8; OUTPUT_ROOM];
-    list(&mut streams, &mut bytes, &mut room, &mut out);
+    let mut buffers = Buffers::new();
+    list(&mut streams, &mut buffers);
     streams.outcome()
 }

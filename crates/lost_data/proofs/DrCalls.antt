@@ -16,6 +16,7 @@ use Rattle.reachable.proofs.Valid.{Valid}
 use Rattle.hosts.specs.Hosts.{Call, loads, reads, called_of, commands, called_all, NoneAccepted, none, more}
 use Rattle.hosts.proofs.QuietCalls.{load_by, calls_valid}
 use Rattle.lost_data.specs.LostData.{on_dr, none_on_dr}
+use Rattle.std.specs.Result.{is_ok}
 
 module _ (m : Machine) (valid : Valid m) where
   -- no load of DR is refused
@@ -25,7 +26,7 @@ module _ (m : Machine) (valid : Valid m) where
 
   load_drq :
       (l : Lines) (number b : ℕ)
-      → (eqb number 0 && eqb (load_register m l number b).number 0) ≡ false
+      → (eqb number 0 && is_ok (load_register m l number b).outcome) ≡ false
       → (load_register m l number b).machine.wires.drq ≡ (m.wires.drq && not (eqb number 3))
   unfolding load_wires
   load_drq l number b quiet = by (eqb number 3) refl

@@ -12,6 +12,7 @@ use Rattle.hosts.specs.Hosts.{Host, Desk, at, AloneUntil}
 use Rattle.hosts.proofs.QuietCalls.{calls_bus}
 use Rattle.hosts.proofs.Views.{DoneAt}
 use Rattle.hosts.proofs.ByteTimes.{finds, done_or_not, turned, refused_machine}
+use Rattle.refusals.specs.Numbers.{refused, done}
 
 module _ (P : Order → Activity → Type 0) (keeps : (o : Order) (s : Seen) (a : Activity) → P o a → P o (act_of o s a).next)
     (h : Host) (d : Desk) (n : ℕ) (alone : AloneUntil h d n) where

@@ -15,6 +15,7 @@ use Rattle.lost_data.specs.LostData.{ReadCommand, read_sector, read_address, Acc
 use Rattle.lost_data.proofs.Begun.{AtFirst, first_order, first_activity}
 use Rattle.lost_data.proofs.Kept.{kept_found}
 use Rattle.lost_data.proofs.ReadCourse.{ReadJob, Reading, ReadDeed, nothing, read_act}
+use Rattle.refusals.specs.Numbers.{refused, done}
 
 -- ---- where it begins
 

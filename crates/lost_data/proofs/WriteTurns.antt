@@ -26,6 +26,7 @@ use Rattle.lost_data.proofs.Begun.{AtFirst, first_order, first_activity}
 use Rattle.lost_data.proofs.Since.{drq_found}
 use Rattle.lost_data.proofs.Kept.{kept_found}
 use Rattle.lost_data.proofs.WriteCourse.{WriteJob, InWrite, Writing, LeavesDrq, WriteDeed, write_act}
+use Rattle.refusals.specs.Numbers.{refused, done}
 
 -- ---- where it begins
 

@@ -1,12 +1,11 @@
 -- The accident of March: a host was late for one byte, the next was written over it in DR, and Lost Data stayed off. Here: when
 -- Lost Data is on, exactly, in reads and in writes, under every host; and that no byte is written over without it. Scenes,
 -- hosts, and the byte times that hand a byte over or take one, are of the crate `hosts`. Assumes nothing.
-use Rattle.std.specs.Prelude.{◌≡◌, Bool, true, false, not, ◌&&◌, List, [], ◌∷◌, ◌⊎◌, ℕ, suc, ◌≤◌, ◌<◌, eqb, get_or}
+use Rattle.std.specs.Prelude.{◌≡◌, Bool, true, false, not, ◌&&◌, List, [], ◌∷◌, ◌⊎◌, ℕ, suc, ◌≤◌, ◌<◌, eqb, get_or, Some}
 use Rattle.common.specs.Bits.{bit_of}
 use Rattle.command.specs.Commands.{decoded_of}
 use Rattle.command.specs.declared.Command.{Command}
 use Rattle.command.specs.declared.Command.TheVariants.{ReadSector, WriteSector, ReadAddress, WriteTrack}
-use Rattle.command.specs.declared.Decoded.TheVariants.{Taken}
 use Rattle.activity.specs.Limits.{busy_in}
 use Rattle.activity.specs.declared.Deed.{Deed}
 use Rattle.activity.specs.declared.Deed.TheVariants.{Nothing, Deliver, Named, Matched, NotFound, Record, Written, Ask, Late, Take, Step, Halt}
@@ -17,6 +16,7 @@ use Rattle.wd.specs.Loads.{load_register}
 use Rattle.hosts.specs.Hosts.{Call, loads, reads, NoneAccepted, Host, Desk, served_at, at, AloneUntil, BusyAt}
 use Rattle.hosts.specs.Scenes.{Scene, loaded}
 use Rattle.hosts.specs.Bytes.{deed_at, takes, hands}
+use Rattle.refusals.specs.Numbers.{done}
 
 -- ---- what the host does and sees
 
@@ -48,8 +48,8 @@ pub data WriteCommand : Command → Type 0 where
 
 -- the scene's command is this one and accepted, with the drive ready or not, and no other is before byte time n
 pub record AcceptedAlone (s : Scene) (command : Command) (n : ℕ) : Type 0 where
-  pub decodes : decoded_of s.machine.chip s.byte ≡ Taken command
-  pub accepted : (load_register s.machine s.lines 0 s.byte).number ≡ 0
+  pub decodes : decoded_of s.machine.chip s.byte ≡ Some command
+  pub accepted : (load_register s.machine s.lines 0 s.byte).outcome ≡ done
   pub alone : AloneUntil s.host (loaded s) n
 
 -- ---- reads

@@ -1,6 +1,6 @@
 -- Request b, "A bad data CRC ends a multiple read": the records that a Read Sector with m passes, one after another, and how it ends.
 -- The command, its host and which IDs match are of the crate `hosts`: `specs/Scenes.antt` and `specs/Hosts.antt`. Assumes nothing.
-use Rattle.std.specs.Prelude.{◌≡◌, Bool, true, false, ◌⊎◌, ℕ, suc, ◌+◌, ◌%◌, ◌≤◌, ◌<◌, length, get_or}
+use Rattle.std.specs.Prelude.{◌≡◌, Bool, true, false, ◌⊎◌, ℕ, suc, ◌+◌, ◌%◌, ◌≤◌, ◌<◌, length, get_or, Some}
 use Rattle.scan.specs.Marks.{lead_of}
 use Rattle.scan.specs.DataMarks.{is_deleted, window_of}
 use Rattle.scan.specs.Streams.{IdAt, id_from, id_width, crc_from}
@@ -8,7 +8,6 @@ use Rattle.scan.specs.declared.DataMark.{DataMark}
 use Rattle.command.specs.Bits.{is_multiple}
 use Rattle.command.specs.Commands.{decoded_of}
 use Rattle.command.specs.declared.Command.TheVariants.{ReadSector}
-use Rattle.command.specs.declared.Decoded.TheVariants.{Taken}
 use Rattle.registers.specs.declared.Lines.{Lines}
 use Rattle.fields.specs.Rounds.{MarkWithin, FirstMark}
 use Rattle.wd.specs.declared.Machine.{Machine}
@@ -16,19 +15,20 @@ use Rattle.wd.specs.Loads.{load_register}
 use Rattle.hosts.specs.Hosts.{served_at, at, AloneUntil, Undisturbed, EndsAt}
 use Rattle.hosts.specs.Scenes.{Scene, loaded, settling, SuitsFor, field_bytes, crc_error, not_found, deleted_mark}
 use Rattle.hosts.specs.Tracks.{position_at, passing, pulses_in}
+use Rattle.refusals.specs.Numbers.{done}
 
 -- ---- the command
 
 -- a Read Sector with m, accepted
 pub record MultipleAccepted (s : Scene) : Type 0 where
-  pub reads : decoded_of s.machine.chip s.byte ≡ Taken ReadSector
+  pub reads : decoded_of s.machine.chip s.byte ≡ Some ReadSector
   pub multiple : is_multiple s.byte ≡ true
-  pub accepted : (load_register s.machine s.lines 0 s.byte).number ≡ 0
+  pub accepted : (load_register s.machine s.lines 0 s.byte).outcome ≡ done
 
 -- a Read Sector, with m or without, accepted, that ends by itself in byte time n, no other command being accepted before that
 pub record EndedReadSector (s : Scene) (n : ℕ) : Type 0 where
-  pub reads : decoded_of s.machine.chip s.byte ≡ Taken ReadSector
-  pub accepted : (load_register s.machine s.lines 0 s.byte).number ≡ 0
+  pub reads : decoded_of s.machine.chip s.byte ≡ Some ReadSector
+  pub accepted : (load_register s.machine s.lines 0 s.byte).outcome ≡ done
   pub alone : AloneUntil s.host (loaded s) n
   pub ends : EndsAt s.host (loaded s) n
 

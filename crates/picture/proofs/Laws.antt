@@ -6,17 +6,16 @@ use mathlib.Core.List.{List}
 use Prim.Native.Nat.{ℕ, ◌≤◌, ◌<◌}
 use native.Mathlib.Omega.{arith}
 use lib.ListN.{length, get_or}
+use Rattle.std.specs.Prelude.{Result, Ok, Err}
 use Rattle.common.proofs.Laid.{first_places, laid_length, laid_in, laid_out}
+use Rattle.refusals.specs.declared.Refusal.{Refusal}
+use Rattle.refusals.specs.Numbers.{number_in}
 use Rattle.scan.specs.Rows.{shortest_row, longest_row}
 use Rattle.picture.specs.declared.Kind.{Kind}
 use Rattle.picture.specs.declared.Kind.TheVariants.{Fm, Mfm, EightInchFm, EightInchMfm}
-use Rattle.picture.specs.declared.Named.{Named}
-use Rattle.picture.specs.declared.Named.TheVariants.{Known, Unknown}
-use Rattle.picture.specs.declared.Verdict.{Verdict}
-use Rattle.picture.specs.declared.Verdict.TheVariants.{Sound, Refused}
 use Rattle.picture.specs.Kinds.{kind_of, shape_of, length_of}
 use Rattle.picture.specs.Layout.{cell_place, flag_in, cell_from, picture_cell}
-use Rattle.picture.specs.Reader.{verdict_of, room_with_picture, taken_from, refused_by, answer_of, filled_of, reader_answer, reader_room}
+use Rattle.picture.specs.Reader.{Verdict, verdict_of, room_with_picture, taken_from, refused_by, answer_of, filled_of, reader_answer, reader_room}
 use Rattle.picture.proofs.Verdicts.{sound_whole, done_sound}
 
 -- the cells of a picture are as many as a row may have
@@ -28,9 +27,9 @@ kind_length EightInchFm = (omega arith, omega arith)
 kind_length EightInchMfm = (omega arith, omega arith)
 
 -- the kind of a kind byte, FM where it is none's
-abbrev kind_in : Named → Kind
-kind_in (Known k) = k
-kind_in Unknown = Fm
+abbrev kind_in : Result Kind Refusal → Kind
+kind_in (Ok k) = k
+kind_in (Err refusal) = Fm
 
 abbrev pub kind_for : ℕ → Kind
 kind_for b = kind_in (kind_of b)
@@ -44,9 +43,9 @@ cell_most k bytes i byte =
 
 module _ (bytes room : List ℕ) where
   -- what holds of both verdicts holds of the reader's
-  by_verdict : (P : Verdict → Type 0) → ((k : Kind) → P (Sound k)) → ((n : ℕ) → P (Refused n)) → (v : Verdict) → P v
-  by_verdict P s r (Sound k) = s k
-  by_verdict P s r (Refused n) = r n
+  by_verdict : (P : Verdict → Type 0) → ((k : Kind) → P (Ok k)) → ((refusal : Refusal) → P (Err refusal)) → (v : Verdict) → P v
+  by_verdict P s r (Ok k) = s k
+  by_verdict P s r (Err refusal) = r refusal
 
   -- the reader keeps the room's size
   pub room_length : length (reader_room bytes room) ≡ length room
@@ -54,15 +53,15 @@ module _ (bytes room : List ℕ) where
   room_length =
       by_verdict (λ (v : Verdict). length (filled_of bytes room v) ≡ length room)
       (λ k. laid_length room (λ i. i) (picture_cell k bytes) (length_of k))
-      (λ n. refl)
+      (λ refusal. refl)
       (verdict_of bytes (length room))
 
-  module _ (done : (reader_answer bytes (length room)).number ≡ 0) where
+  module _ (done : number_in (reader_answer bytes (length room)).outcome ≡ 0) where
     -- the kind of the picture that was taken
     abbrev k : Kind
     k = (reader_answer bytes (length room)).kind
 
-    sound : verdict_of bytes (length room) ≡ Sound k
+    sound : verdict_of bytes (length room) ≡ Ok k
     unfolding reader_answer
     sound = done_sound bytes (length room) done
 
@@ -83,17 +82,18 @@ module _ (bytes room : List ℕ) where
     room_beyond i d out =
         rw sound (laid_out room (λ i. i) (picture_cell k bytes) (length_of k) i d (λ j l e. omega arith))
 
-  -- "nothing written", "track and side 0": a refused picture leaves the room as lent and gives its number alone
+  -- "nothing written", "track and side 0": a refused picture leaves the room as lent and gives its refusal alone
   pub refused_leaves :
       let a = reader_answer bytes (length room) in
-      a.number ≢ 0 → (reader_room bytes room ≡ room) × (a ≡ refused_by a.number)
-  unfolding reader_answer reader_room answer_of filled_of taken_from refused_by
+      number_in a.outcome ≢ 0 → (reader_room bytes room ≡ room) × ((refusal : Refusal) × (a ≡ refused_by refusal))
+  unfolding number_in reader_answer reader_room answer_of filled_of taken_from
   refused_leaves =
       by_verdict
       (λ (v : Verdict).
-      let a = answer_of bytes v in a.number ≢ 0 → (filled_of bytes room v ≡ room) × (a ≡ refused_by a.number))
+      let a = answer_of bytes v in
+      number_in a.outcome ≢ 0 → (filled_of bytes room v ≡ room) × ((refusal : Refusal) × (a ≡ refused_by refusal)))
       (λ k some. absurd (some refl))
-      (λ n some. (refl, refl))
+      (λ refusal some. (refl, (refusal, refl)))
       (verdict_of bytes (length room))
 
   -- no byte is taken that is not there
@@ -102,5 +102,5 @@ module _ (bytes room : List ℕ) where
   taken_within size = by (verdict_of bytes size) refl
     where
       by : (v : Verdict) → verdict_of bytes size ≡ v → (answer_of bytes v).taken ≤ length bytes
-      by (Sound k) e = omega (arith, (sound_whole bytes size k e).1.there)
-      by (Refused n) e = omega arith
+      by (Ok k) e = omega (arith, (sound_whole bytes size k e).1.there)
+      by (Err refusal) e = omega arith

@@ -1,19 +1,19 @@
 -- The kinds of pictures: document 01, "Pictures and the viewer", and request h. Assumes nothing.
-use Rattle.std.specs.Prelude.{Bool, true, false, cond, ℕ, eqb}
+use Rattle.std.specs.Prelude.{Bool, true, false, cond, ℕ, eqb, Result, Ok, Err}
+use Rattle.refusals.specs.declared.Refusal.{Refusal}
+use Rattle.refusals.specs.declared.Refusal.TheVariants as refusal
 use Rattle.picture.specs.declared.Kind.{Kind}
 use Rattle.picture.specs.declared.Kind.TheVariants.{Fm, Mfm, EightInchFm, EightInchMfm}
 use Rattle.picture.specs.declared.Shape.{Shape}
-use Rattle.picture.specs.declared.Named.{Named}
-use Rattle.picture.specs.declared.Named.TheVariants.{Known, Unknown}
 
--- "A picture is a kind byte, ..": "46 FM, ..; 4D MFM, ..", and "66 FM, ..; 6D MFM, .."
-unfoldable pub kind_of : ℕ → Named
+-- "A picture is a kind byte, ..": "46 FM, ..; 4D MFM, ..", and "66 FM, ..; 6D MFM, .."; 8: "any kind but the four"
+unfoldable pub kind_of : ℕ → Result Kind Refusal
 kind_of b =
-    cond (eqb b 0x46) (Known Fm)
-    (cond (eqb b 0x4D) (Known Mfm)
-    (cond (eqb b 0x66) (Known EightInchFm)
-    (cond (eqb b 0x6D) (Known EightInchMfm)
-    Unknown)))
+    cond (eqb b 0x46) (Ok Fm)
+    (cond (eqb b 0x4D) (Ok Mfm)
+    (cond (eqb b 0x66) (Ok EightInchFm)
+    (cond (eqb b 0x6D) (Ok EightInchMfm)
+    (Err refusal.Kind))))
 
 -- what a picture is of: the letter that the list prints, in ASCII, whether the density is MFM, and L, the cells of the track
 abbrev pub shape_with : ℕ → Bool → ℕ → Shape

@@ -1,12 +1,14 @@
 // Pictures of tracks, and their reader.
 #![tactic(auto)]
 
-ghost use Rattle.std.specs.Prelude.{◌≡◌, ◌+◌, ◌≤◌, ◌<◌, length};
+ghost use Rattle.std.specs.Prelude.{◌≡◌, ◌+◌, ◌≤◌, ◌<◌, length, IfOk, IfErr};
 ghost use Rattle.scan.specs.Rows.{shortest_row, longest_row};
 ghost use Rattle.picture.specs.Kinds.{kind_of, shape_with, shape_of, length_of};
 ghost use Rattle.picture.specs.Layout.{cell_place, body_length, longest_picture, cell_from, picture_cell, spare_clear, padding_clear};
 ghost use Rattle.picture.specs.Reader.{sound_of, judged_for, judged_of, verdict_of, room_with_picture};
 ghost use Rattle.picture.specs.Reader.{refused_by, taken_from, reader_answer, reader_room};
+
+use refusals::{Outcome, Refusal};
 
 // No picture has more bytes.
 pub const LONGEST: usize = 3 + scan::LONGEST_ROW + (scan::LONGEST_ROW + 7) / 8;
@@ -35,40 +37,31 @@ struct CellPlace {
     flags: usize,
 }
 
-// What a picture's first byte stands for.
-#[derive(Clone, Copy)]
-enum Named {
-    Known(Kind),
-    Unknown,
-}
-
-// What the reader says before it writes a cell: a whole picture of a kind, or a refusal by its number.
-#[derive(Clone, Copy)]
-enum Verdict {
-    Sound(Kind),
-    Refused(u8),
-}
-
 // The reader's answer. A refused picture is given as FM, with track and side 0 and no byte taken.
 #[derive(Clone, Copy)]
 pub struct Answer {
-    pub number: u8,
+    pub outcome: Outcome,
     pub kind: Kind,
     pub track: u8,
     pub side: u8,
     pub taken: usize,
 }
 
-#[tactic(auto, unfolding(crate::specs::Kinds::kind_of))]
-fn kind_of(byte: u8) -> Named
-    ensures { result ≡ kind_of byte }
-{
-    match byte {
-        0x46 => Named::Known(Kind::Fm),
-        0x4D => Named::Known(Kind::Mfm),
-        0x66 => Named::Known(Kind::EightInchFm),
-        0x6D => Named::Known(Kind::EightInchMfm),
-        _ => Named::Unknown,
+impl TryFrom<u8> for Kind {
+    type Error = Refusal;
+
+    ghost try_from_gives = { λ byte kind. kind ≡ kind_of byte };
+
+    // The kind of a picture, by its first byte.
+    #[tactic(auto, unfolding(crate::specs::Kinds::kind_of))]
+    fn try_from(byte: u8) -> Result<Kind, Refusal> {
+        match byte {
+            0x46 => Ok(Kind::Fm),
+            0x4D => Ok(Kind::Mfm),
+            0x66 => Ok(Kind::EightInchFm),
+            0x6D => Ok(Kind::EightInchMfm),
+            _ => Err(Refusal::Kind),
+        }
     }
 }
 
@@ -101,8 +94,7 @@ impl Kind {
         ensures value { result ≡ length_of self }
         ensures lower_bound { (shortest_row ≤ result) × (result ≤ longest_row) }
     {
-        let shape = self.shape();
-        shape.length
+        self.shape().length
     }
 
     // The layout: the data bytes stand after kind, track and side, and the flag bytes after them.
@@ -138,57 +130,85 @@ fn spare_clear(cells: usize, last: u8) -> bool
     (last as usize) % (1 << ((8 - cells % 8) % 8)) == 0
 }
 
-fn padding_clear(kind: Kind, bytes: &[u8]) -> bool
-    requires { body_length kind < length bytes.now }
-    ensures { result ≡ padding_clear kind bytes.now }
-{
-    let last = kind.body();
-    spare_clear(kind.length(), bytes[last])
+// A picture of a kind, with all its bytes; more may stand after them.
+#[derive(Clone, Copy)]
+struct Picture<'a> {
+    kind: Kind,
+    bytes: &'a [u8],
+    ghost whole: { body_length kind < length bytes.now },
 }
 
-#[tactic(auto, unfolding(crate::specs::Layout::body_length, crate::specs::Reader::sound_of))]
-fn sound(kind: Kind, bytes: &[u8]) -> bool
-    requires { body_length kind < length bytes.now }
-    ensures { result ≡ sound_of kind bytes.now }
-{
-    (bytes[2] <= 1) & padding_clear(kind, bytes)
-}
+impl<'a> Picture<'a> {
+    // The first picture of the bytes, if it is sound and fits a room of so many cells.
+    #[tactic(auto, unfolding(crate::specs::Reader::verdict_of, crate::specs::Reader::judged_of, crate::specs::Reader::judged_for))]
+    fn judge(bytes: &'a [u8], room: usize) -> Result<Picture<'a>, Refusal>
+        ensures ok { IfOk result (λ picture. verdict_of bytes.now room ≡ Ok picture.kind) }
+        ensures lent { IfOk result (λ picture. (picture.bytes.now ≡ bytes.now) × (length_of picture.kind ≤ room)) }
+        ensures err { IfErr result (λ refusal. verdict_of bytes.now room ≡ Err refusal) }
+    {
+        let Some(&first) = bytes.first() else {
+            return Err(Refusal::End);
+        };
+        let kind = Kind::try_from(first)?;
+        if bytes.len() <= kind.body() {
+            return Err(Refusal::End);
+        }
+        if room < kind.length() {
+            return Err(Refusal::Room);
+        }
+        let picture = Picture { kind, bytes };
+        if !picture.is_sound() {
+            return Err(Refusal::Side);
+        }
+        Ok(picture)
+    }
 
-#[tactic(auto, unfolding(crate::specs::Reader::judged_for))]
-fn judge_for(kind: Kind, bytes: &[u8], room: usize) -> Verdict
-    ensures { result ≡ judged_for bytes.now room kind }
-{
-    if bytes.len() <= kind.body() {
-        return Verdict::Refused(9);
+    fn padding_clear(&self) -> bool
+        ensures { result ≡ padding_clear self.now.kind self.now.bytes.now }
+    {
+        spare_clear(self.kind.length(), self.bytes[self.kind.body()])
     }
-    if room < kind.length() {
-        return Verdict::Refused(12);
-    }
-    if sound(kind, bytes) {
-        return Verdict::Sound(kind);
-    }
-    Verdict::Refused(10)
-}
 
-#[tactic(auto, unfolding(crate::specs::Reader::judged_of))]
-fn judge_named(named: Named, bytes: &[u8], room: usize) -> Verdict
-    ensures { result ≡ judged_of bytes.now room named }
-{
-    match named {
-        Named::Known(kind) => judge_for(kind, bytes, room),
-        Named::Unknown => Verdict::Refused(8),
+    #[tactic(auto, unfolding(crate::specs::Layout::body_length, crate::specs::Reader::sound_of))]
+    fn is_sound(&self) -> bool
+        ensures { result ≡ sound_of self.now.kind self.now.bytes.now }
+    {
+        (self.bytes[2] <= 1) & self.padding_clear()
     }
-}
 
-// Whether the bytes begin with a picture that fits a room of so many cells.
-#[tactic(auto, unfolding(crate::specs::Reader::verdict_of))]
-fn judge(bytes: &[u8], room: usize) -> Verdict
-    ensures { result ≡ verdict_of bytes.now room }
-{
-    if bytes.len() == 0 {
-        return Verdict::Refused(9);
+    // A cell of the track.
+    #[tactic(auto, unfolding(crate::specs::Layout::picture_cell))]
+    fn cell(&self, i: usize) -> u16
+        requires { i < length_of self.now.kind }
+        ensures { result ≡ picture_cell self.now.kind self.now.bytes.now i }
+    {
+        let place = self.kind.place(i);
+        cell(self.bytes[place.byte], self.bytes[place.flags], i)
     }
-    judge_named(kind_of(bytes[0]), bytes, room)
+
+    // Its cells go to the room's first places.
+    #[tactic(auto, unfolding(common::specs::Laid::laid_row, crate::specs::Reader::room_with_picture))]
+    fn lay(&self, room: &mut [u16])
+        requires { length_of self.now.kind ≤ length room.old }
+        ensures { room.new ≡ room_with_picture self.now.kind self.now.bytes.now room.old }
+    {
+        for i in 0..self.kind.length() {
+            room[i] = self.cell(i);
+        }
+    }
+
+    #[tactic(auto, unfolding(crate::specs::Layout::body_length, crate::specs::Reader::taken_from))]
+    fn taken(&self) -> Answer
+        ensures { result ≡ taken_from self.now.bytes.now self.now.kind }
+    {
+        Answer {
+            outcome: Ok(()),
+            kind: self.kind,
+            track: self.bytes[1],
+            side: self.bytes[2],
+            taken: self.kind.body() + 1,
+        }
+    }
 }
 
 // A cell: its byte, and 256 where its flag bit is 1. Eight cells share a flag byte, the first at bit 7.
@@ -199,57 +219,16 @@ fn cell(byte: u8, flags: u8, place: usize) -> u16
     byte as u16 + ((flags >> (7 - place % 8)) % 2) as u16 * 256
 }
 
-// A cell of a picture.
-#[tactic(auto, unfolding(crate::specs::Layout::picture_cell))]
-fn cell_in(kind: Kind, bytes: &[u8], i: usize) -> u16
-    requires { (body_length kind < length bytes.now) × (i < length_of kind) }
-    ensures { result ≡ picture_cell kind bytes.now i }
-{
-    let place = kind.place(i);
-    let byte = place.byte;
-    let flags = place.flags;
-    cell(bytes[byte], bytes[flags], i)
-}
-
-// The cells of a picture go to the room's first places.
-#[tactic(auto, unfolding(common::specs::Laid::laid_row, crate::specs::Reader::room_with_picture))]
-fn lay(kind: Kind, bytes: &[u8], room: &mut [u16])
-    requires { (body_length kind < length bytes.now) × (length_of kind ≤ length room.old) }
-    ensures { room.new ≡ room_with_picture kind bytes.now room.old }
-{
-    let cells = kind.length();
-    let mut i = 0;
-    while i < cells {
-        room[i] = cell_in(kind, bytes, i);
-        i += 1;
-    }
-}
-
 #[tactic(auto, unfolding(crate::specs::Reader::refused_by))]
-fn refused(number: u8) -> Answer
-    ensures { result ≡ refused_by number }
+fn refused(refusal: Refusal) -> Answer
+    ensures { result ≡ refused_by refusal }
 {
     Answer {
-        number,
+        outcome: Err(refusal),
         kind: Kind::Fm,
         track: 0,
         side: 0,
         taken: 0,
-    }
-}
-
-#[tactic(auto, unfolding(crate::specs::Reader::taken_from))]
-fn taken(kind: Kind, bytes: &[u8]) -> Answer
-    requires { body_length kind < length bytes.now }
-    ensures { result ≡ taken_from bytes.now kind }
-{
-    let body = kind.body();
-    Answer {
-        number: 0,
-        kind,
-        track: bytes[1],
-        side: bytes[2],
-        taken: body + 1,
     }
 }
 
@@ -259,11 +238,11 @@ pub fn read(bytes: &[u8], room: &mut [u16]) -> Answer
     ensures value { result ≡ reader_answer bytes.now (length room.old) }
     ensures room_after { room.new ≡ reader_room bytes.now room.old }
 {
-    match judge(bytes, room.len()) {
-        Verdict::Sound(kind) => {
-            lay(kind, bytes, room);
-            taken(kind, bytes)
+    match Picture::judge(bytes, room.len()) {
+        Ok(picture) => {
+            picture.lay(room);
+            picture.taken()
         }
-        Verdict::Refused(number) => refused(number),
+        Err(refusal) => refused(refusal),
     }
 }

@@ -6,7 +6,7 @@ use native.Mathlib.Nat.{add-zero, zero-add, mod-eq_of_lt, add-mod_left}
 use native.Mathlib.Omega.{arith}
 use lib.Dec.{ltb, eqb}
 use lib.ListN.{length}
-use borrow.Author.Tests.{eqb-true, eqb-false, ltb-false}
+use borrow.Author.Tests.{eqb-true, ltb-false}
 use Rattle.common.proofs.Cases.{by_cond}
 use Rattle.registers.specs.declared.Ring.{Ring}
 use Rattle.registers.specs.declared.Lines.{Lines}
@@ -17,28 +17,31 @@ use Rattle.wd.specs.Turns.{act_applied, cell_turn}
 use Rattle.wd.specs.Rows.{row_refusal, under, refused_at, done_by, byte_time, byte_time_row, empty_run, Run, runs_on, run_from, run_of}
 use Rattle.wd.proofs.Valid.{next_length, next_inside, open_row, valid_ring}
 use Rattle.wd.proofs.Runs.{at}
-use Rattle.reachable.specs.ByteTimes.{turns_on, machine_after, row_after, number_after}
+use Rattle.reachable.specs.ByteTimes.{turns_on, machine_after, row_after, outcome_after}
 use Rattle.reachable.proofs.Runs.{run_makes}
+use Rattle.refusals.specs.Numbers.{Outcome, done}
+use Rattle.refusals.proofs.Outcomes.{ok-done, not_ok-done, refused-done}
+use Rattle.std.specs.Result.{is_ok}
 
 -- ---- the ring
 
 -- a byte time that is done takes the head one cell on
 passed_ring :
     (m : Machine) (l : Lines) (row : List ℕ)
-    → (byte_time m l row).number ≡ 0
+    → (byte_time m l row).outcome ≡ done
     → (byte_time m l row).machine.ring ≡ ring_next m.ring
 unfolding byte_time refused_at done_by cell_turn act_applied
 passed_ring m l row =
-    by_cond (λ (p : Passed). p.number ≡ 0 → p.machine.ring ≡ ring_next m.ring) (eqb (row_refusal m (length row)) 0)
+    by_cond (λ (p : Passed). p.outcome ≡ done → p.machine.ring ≡ ring_next m.ring) (is_ok (row_refusal m (length row)))
     (λ e.
-    by_cond (λ (p : Passed). p.number ≡ 0 → p.machine.ring ≡ ring_next m.ring) (ltb 511 (under m row))
-    (λ f h. absurd (omega arith))
+    by_cond (λ (p : Passed). p.outcome ≡ done → p.machine.ring ≡ ring_next m.ring) (ltb 511 (under m row))
+    (λ f h. absurd (refused-done _ h))
     (λ f h. refl))
-    (λ e h. absurd (eqb-false _ _ e h))
+    (λ e h. absurd (not_ok-done _ e h))
 
 ring_after :
     (n : ℕ) (m : Machine) (l : Lines) (row : List ℕ)
-    → ((k : ℕ) → k < n → number_after k m l row ≡ 0)
+    → ((k : ℕ) → k < n → outcome_after k m l row ≡ done)
     → (machine_after n m l row).ring ≡ turns_on n m.ring
 unfolding machine_after row_after turns_on
 ring_after zero m l row accepted = refl
@@ -76,7 +79,7 @@ turns_position (suc n) r h =
 abbrev pub reports : Machine → Lines → ℕ → List ℕ → ℕ
 reports m l limit row = (run_of m l limit row).tally.passed
 
-module _ (m : Machine) (l : Lines) (limit : ℕ) (row : List ℕ) (opens : row_refusal m (length row) ≡ 0) where
+module _ (m : Machine) (l : Lines) (limit : ℕ) (row : List ℕ) (opens : row_refusal m (length row) ≡ done) where
   -- "up to a lent limit"
   pub run_count : reports m l limit row ≤ limit
   run_count = (run_makes m l limit row opens).most
@@ -98,6 +101,6 @@ pub run_none :
     (m : Machine) (l : Lines) (row : List ℕ) → run_from m l 0 row ≡ at (empty_run (row_refusal m (length row)) m) row
 unfolding run_from runs_on
 run_none m l row =
-    by_cond (λ (q : Run). q ≡ at (empty_run (row_refusal m (length row)) m) row) (eqb (row_refusal m (length row)) 0)
-    (λ e. ap (λ (number : ℕ). at (empty_run number m) row) (sym (eqb-true _ _ e)))
+    by_cond (λ (q : Run). q ≡ at (empty_run (row_refusal m (length row)) m) row) (is_ok (row_refusal m (length row)))
+    (λ e. ap (λ (o : Outcome). at (empty_run o m) row) (sym (ok-done _ e)))
     (λ e. refl)

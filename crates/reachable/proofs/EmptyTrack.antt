@@ -6,7 +6,7 @@ use Prim.Native.Nat.{ℕ, zero, suc, ◌+◌, ◌<◌}
 use native.Mathlib.Omega.{arith}
 use lib.Dec.{eqb}
 use lib.ListN.{length, get_or}
-use borrow.Author.Tests.{lt-ltb, lt-leb, eq-eqb, ne_eqb}
+use borrow.Author.Tests.{lt-ltb, lt-leb, ne_eqb}
 use Rattle.scan.specs.Marks.{lead_of, carries_mark, sync_run, mark_step}
 use Rattle.scan.specs.Ids.{run_in, id_cell_step, id_mark_step, id_step}
 use Rattle.scan.specs.declared.Passed.TheVariants as mark
@@ -28,6 +28,8 @@ use Rattle.wd.proofs.Valid.{row_open}
 use Rattle.reachable.specs.Growth.{Grown, byte_time_call}
 use Rattle.reachable.proofs.Valid.{grown_valid}
 use Rattle.reachable.proofs.Samples.{sample_length, empty, empty_length, empty_cell}
+use Rattle.refusals.proofs.Outcomes.{done-ok}
+use Rattle.refusals.specs.Numbers.{done}
 
 -- what waits for a mark, having seen so many pulses
 abbrev pub Waits : (ℕ → Activity) → Type 0
@@ -67,13 +69,13 @@ onwards position next e h =
     let apart : (next ≡ sample_length) → ⊥ = omega arith in
     simp (lt-ltb position sample_length inside, e, ne_eqb next sample_length apart)
 
-done :
+passed :
     (m : Machine) (l : Lines) (row : List ℕ)
-    → row_refusal m (length row) ≡ 0
+    → row_refusal m (length row) ≡ done
     → under m row ≡ 0
     → (byte_time m l row).machine ≡ (cell_turn m l 0).machine
 unfolding byte_time done_by
-done m l row opens plain = simp (eq-eqb (row_refusal m (length row)) 0 opens, plain)
+passed m l row opens plain = simp (done-ok (row_refusal m (length row)) opens, plain)
 
 module _ (l : Lines) (waiting : ℕ → Activity) (waits : Waits waiting) where
   turn :
@@ -89,7 +91,7 @@ module _ (l : Lines) (waiting : ℕ → Activity) (waits : Waits waiting) where
       let whole = empty_length sample_length ∙ sym (ap (λ (r : Ring). r.length) ring) in
       let opens = row_open m (length empty) (grown_valid m g) whole in
       let plain = ap (λ (r : Ring). get_or empty r.position 0) ring ∙ empty_cell sample_length position inside in
-      let turned = done m l empty opens plain in
+      let turned = passed m l empty opens plain in
       let pulses = ap (λ (r : Ring). pulses_seen seen (eqb r.position 0)) ring ∙ p in (
         (byte_time m l empty).machine,
         byte_time_call g l empty,

@@ -2,7 +2,7 @@
 use mathlib.Core.Path.{◌≡◌, refl}
 use mathlib.Core.List.{List}
 use Prim.Native.Nat.{ℕ}
-use lib.Dec.{ltb, eqb}
+use lib.Dec.{ltb}
 use lib.ListN.{length, get_or}
 use lib.Seq.{get_or-set_other}
 use Rattle.common.proofs.Cases.{by_cond}
@@ -11,6 +11,7 @@ use Rattle.wd.specs.declared.Machine.{Machine}
 use Rattle.wd.specs.Turns.{cell_turn}
 use Rattle.wd.specs.Rows.{row_refusal, under, byte_time_row}
 use Rattle.wd.proofs.Valid.{row_length}
+use Rattle.std.specs.Result.{is_ok}
 
 -- "Each byte time the cell at the head position passes": every other cell stays, and so does their number
 pub one_cell :
@@ -21,7 +22,7 @@ unfolding byte_time_row
 one_cell m l row = (
   row_length m l row,
   λ i apart.
-      by_cond (λ (q : List ℕ). get_or q i 0 ≡ get_or row i 0) (eqb (row_refusal m (length row)) 0)
+      by_cond (λ (q : List ℕ). get_or q i 0 ≡ get_or row i 0) (is_ok (row_refusal m (length row)))
       (λ e.
       by_cond (λ (q : List ℕ). get_or q i 0 ≡ get_or row i 0) (ltb 511 (under m row))
       (λ f. refl)

@@ -4,9 +4,8 @@ use mathlib.Core.Bool.{Bool, true, false, cond}
 use mathlib.Core.List.{List}
 use Prim.Native.Nat.{ℕ, zero, suc, ◌+◌, ◌<◌}
 use native.Mathlib.Omega.{arith}
-use lib.Dec.{ltb, eqb}
+use lib.Dec.{ltb}
 use lib.ListN.{length}
-use borrow.Author.Tests.{eqb-true, eqb-false, eq-eqb, ne_eqb}
 use Rattle.common.proofs.Cases.{by_cond}
 use Rattle.registers.specs.declared.Lines.{Lines}
 use Rattle.wd.specs.declared.Machine.{Machine}
@@ -18,22 +17,26 @@ use Rattle.wd.specs.Rows.{row_refusal, under, refused_at, done_by, byte_time, by
 use Rattle.wd.proofs.Valid.{pass_open}
 use Rattle.wd.proofs.Runs.{at, open_run}
 use Rattle.wd.proofs.Stretches.{goes_on}
-use Rattle.reachable.specs.ByteTimes.{machine_after, row_after, number_after, signals, Stops, by_limit, by_wire, by_cell, Makes, is_in, is_out, pulses, Counts}
+use Rattle.reachable.specs.ByteTimes.{machine_after, row_after, outcome_after, signals, Stops, by_limit, by_wire, by_cell, Makes, is_in, is_out, pulses, Counts}
 use Rattle.reachable.proofs.AsGiven.{byte_time_machine, byte_time_row_lem}
+use Rattle.refusals.specs.declared.Refusal.TheVariants as refusal
+use Rattle.refusals.specs.Numbers.{refused, Outcome, done}
+use Rattle.refusals.proofs.Outcomes.{done-ok, not_done-ok, not_err-done, err-done}
+use Rattle.std.specs.Result.{is_ok, is_err}
 
 -- ---- one byte time of a run
 
 -- in a run only 4 refuses
 only_four :
     (m : Machine) (l : Lines) (row : List ℕ)
-    → row_refusal m (length row) ≡ 0
-    → ((byte_time m l row).number ≡ 0 → ⊥)
-    → (byte_time m l row).number ≡ 4
+    → row_refusal m (length row) ≡ done
+    → ((byte_time m l row).outcome ≡ done → ⊥)
+    → (byte_time m l row).outcome ≡ refused refusal.Cell
 unfolding byte_time refused_at done_by
 only_four m l row opens =
-    by_cond (λ (p : Passed). (p.number ≡ 0 → ⊥) → p.number ≡ 4) (eqb (row_refusal m (length row)) 0)
+    by_cond (λ (p : Passed). (p.outcome ≡ done → ⊥) → p.outcome ≡ refused refusal.Cell) (is_ok (row_refusal m (length row)))
     (λ e.
-    by_cond (λ (p : Passed). (p.number ≡ 0 → ⊥) → p.number ≡ 4) (ltb 511 (under m row))
+    by_cond (λ (p : Passed). (p.outcome ≡ done → ⊥) → p.outcome ≡ refused refusal.Cell) (ltb 511 (under m row))
     (λ f h. refl)
     (λ f h. absurd (h refl)))
     (λ e h. absurd (h opens))
@@ -48,13 +51,13 @@ tallied_adds t pulse.Off = (refl, omega arith, omega arith)
 tallied_adds t pulse.In = (refl, refl, omega arith)
 tallied_adds t pulse.Out = (refl, omega arith, refl)
 
-counted_done : (t : Tally) (number : ℕ) (p : Pulse) → number ≡ 0 → counted_of t number p ≡ tallied t p
+counted_done : (t : Tally) (o : Outcome) (p : Pulse) → o ≡ done → counted_of t o p ≡ tallied t p
 unfolding counted_of
-counted_done t number p done = simp (eq-eqb _ _ done)
+counted_done t o p on = simp (done-ok _ on)
 
-counted_none : (t : Tally) (number : ℕ) (p : Pulse) → (number ≡ 0 → ⊥) → counted_of t number p ≡ t
+counted_none : (t : Tally) (o : Outcome) (p : Pulse) → (o ≡ done → ⊥) → counted_of t o p ≡ t
 unfolding counted_of
-counted_none t number p refused = simp (ne_eqb _ _ refused)
+counted_none t o p stopped = simp (not_done-ok _ stopped)
 
 -- counts that are those of n byte times more
 record Adds (m : Machine) (l : Lines) (row : List ℕ) (n : ℕ) (t t' : Tally) : Type 0 where
@@ -68,14 +71,14 @@ adds_none m l row {t} same = rw same (record { passed = omega arith; inward = om
 
 -- one that is done, and n after it
 adds_more : (m : Machine) (l : Lines) (row : List ℕ) (n : ℕ) (t t' : Tally)
-    → (byte_time m l row).number ≡ 0
+    → (byte_time m l row).outcome ≡ done
     → let p = byte_time m l row in
-    Adds p.machine l (byte_time_row m l row) n (counted_of t p.number p.pulse) t'
+    Adds p.machine l (byte_time_row m l row) n (counted_of t p.outcome p.pulse) t'
     → Adds m l row (suc n) t t'
 unfolding pulses
-adds_more m l row n t t' done rest =
+adds_more m l row n t t' on rest =
     let now = tallied_adds t (byte_time m l row).pulse in
-    let behind = rw (counted_done t _ (byte_time m l row).pulse done) at rest in
+    let behind = rw (counted_done t _ (byte_time m l row).pulse on) at rest in
     record {
       passed = omega (arith, now.0, behind.passed);
       inward = omega (arith, now.1, behind.inward);
@@ -94,10 +97,10 @@ still zero m l row first rest = first
 still (suc n) m l row first rest = rest (omega arith)
 
 -- one byte time more in front
-later : {m : Machine} {l : Lines} {limit : ℕ} {row : List ℕ} {n number : ℕ}
+later : {m : Machine} {l : Lines} {limit : ℕ} {row : List ℕ} {n : ℕ} {outcome : Outcome}
     → signals (byte_time m l row).machine ≡ false
-    → Stops (byte_time m l row).machine l limit (byte_time_row m l row) n number
-    → Stops m l (suc limit) row (suc n) number
+    → Stops (byte_time m l row).machine l limit (byte_time_row m l row) n outcome
+    → Stops m l (suc limit) row (suc n) outcome
 unfolding machine_after row_after
 later quiet (by_limit e) = by_limit (ap suc e)
 later quiet (by_wire some e) = by_wire (omega arith) e
@@ -115,7 +118,7 @@ MakesSome limit l from to =
     × Adds from.ran.machine l from.row n from.ran.tally to.ran.tally
     × Makes from.ran.machine l limit from.row n to
 
-makes_none : (limit : ℕ) (l : Lines) (r : Run) → r.ran.number ≡ 0 → limit ≡ 0 → MakesSome limit l r r
+makes_none : (limit : ℕ) (l : Lines) (r : Run) → r.ran.outcome ≡ done → limit ≡ 0 → MakesSome limit l r r
 unfolding machine_after row_after
 makes_none limit l r z e = (
   0,
@@ -130,52 +133,52 @@ makes_none limit l r z e = (
   },
 )
 
-module _ (limit : ℕ) (l : Lines) (r : Run) (opens : row_refusal r.ran.machine (length r.row) ≡ 0) where
+module _ (limit : ℕ) (l : Lines) (r : Run) (opens : row_refusal r.ran.machine (length r.row) ≡ done) where
   makes_last : stops_at (next_in l r) ≡ true → MakesSome (suc limit) l r (onward l r)
   unfolding stops_at onward ran_to machine_after row_after
-  makes_last e = by (eqb (next_in l r).number 0) refl
+  makes_last e = by (is_err (next_in l r).outcome) refl
     where
-      by : (b : Bool) → eqb (next_in l r).number 0 ≡ b → MakesSome (suc limit) l r (onward l r)
-      by true d =
-          let done : (next_in l r).number ≡ 0 = eqb-true _ _ d in (
+      by : (b : Bool) → is_err (next_in l r).outcome ≡ b → MakesSome (suc limit) l r (onward l r)
+      by false d =
+          let on : (next_in l r).outcome ≡ done = not_err-done _ d in (
             1,
-            adds_more r.ran.machine l r.row 0 r.ran.tally _ done (adds_none _ l _ refl),
+            adds_more r.ran.machine l r.row 0 r.ran.tally _ on (adds_none _ l _ refl),
             record {
               most = omega arith;
               accepted =
-                  front (λ (k : ℕ). number_after k r.ran.machine l r.row ≡ 0) 1 done (λ k h. absurd (omega arith));
+                  front (λ (k : ℕ). outcome_after k r.ran.machine l r.row ≡ done) 1 on (λ k h. absurd (omega arith));
               quiet = λ k h. absurd (omega arith);
               left = refl;
               written = refl;
-              stops = rw done (by_wire (omega arith) (rw d at e));
+              stops = rw on (by_wire (omega arith) (rw d at e));
             },
           )
-      by false d =
-          let refused : (next_in l r).number ≡ 0 → ⊥ = eqb-false _ _ d in
-          let four : (next_in l r).number ≡ 4 = only_four r.ran.machine l r.row opens refused in (
+      by true d =
+          let stopped : (next_in l r).outcome ≡ done → ⊥ = err-done _ d in
+          let four : (next_in l r).outcome ≡ refused refusal.Cell = only_four r.ran.machine l r.row opens stopped in (
             0,
-            adds_none r.ran.machine l r.row (counted_none r.ran.tally _ _ refused),
+            adds_none r.ran.machine l r.row (counted_none r.ran.tally _ _ stopped),
             record {
               most = omega arith;
               accepted = λ k h. absurd (omega arith);
               quiet = λ k h. absurd (omega arith);
-              left = byte_time_machine r.ran.machine l r.row refused;
-              written = byte_time_row_lem r.ran.machine l r.row refused;
+              left = byte_time_machine r.ran.machine l r.row stopped;
+              written = byte_time_row_lem r.ran.machine l r.row stopped;
               stops = rw four (by_cell (omega arith) (λ h. absurd (omega arith)) four);
             },
           )
 
-  makes_more : (to : Run) → (next_in l r).number ≡ 0 → signals (next_in l r).machine ≡ false
+  makes_more : (to : Run) → (next_in l r).outcome ≡ done → signals (next_in l r).machine ≡ false
       → MakesSome limit l (onward l r) to
       → MakesSome (suc limit) l r to
   unfolding onward ran_to machine_after row_after
-  makes_more to done quiet (n, c, made) = (
+  makes_more to on quiet (n, c, made) = (
     suc n,
-    adds_more r.ran.machine l r.row n r.ran.tally to.ran.tally done c,
+    adds_more r.ran.machine l r.row n r.ran.tally to.ran.tally on c,
     record {
       most = omega (arith, made.most);
       accepted =
-          front (λ (k : ℕ). number_after k r.ran.machine l r.row ≡ 0) (suc n) done
+          front (λ (k : ℕ). outcome_after k r.ran.machine l r.row ≡ done) (suc n) on
           (λ k h. made.accepted k (omega arith));
       quiet =
           λ k h.
@@ -188,8 +191,8 @@ module _ (limit : ℕ) (l : Lines) (r : Run) (opens : row_refusal r.ran.machine 
   )
 
 makes : (limit : ℕ) (l : Lines) (r : Run)
-    → row_refusal r.ran.machine (length r.row) ≡ 0
-    → r.ran.number ≡ 0
+    → row_refusal r.ran.machine (length r.row) ≡ done
+    → r.ran.outcome ≡ done
     → MakesSome limit l r (runs_on limit l r)
 unfolding runs_on onward ran_to
 makes zero l r opens z = makes_none 0 l r z refl
@@ -204,7 +207,7 @@ makes (suc limit) l r opens z =
 -- a run that begins with no count reports how many it makes, and how many pulses they give
 from_none :
     (limit : ℕ) (l : Lines) (m : Machine) (row : List ℕ) (to : Run)
-    → MakesSome limit l (at (empty_run 0 m) row) to
+    → MakesSome limit l (at (empty_run done m) row) to
     → Makes m l limit row to.ran.tally.passed to × Counts m l row to.ran.tally.passed to.ran.tally
 unfolding empty_run
 from_none limit l m row to (n, c, made) =
@@ -214,13 +217,13 @@ from_none limit l m row to (n, c, made) =
           (record { passed = sym told; inward = omega (arith, c.inward); outward = omega (arith, c.outward) }),
     )
 
-module _ (m : Machine) (l : Lines) (limit : ℕ) (row : List ℕ) (opens : row_refusal m (length row) ≡ 0) where
+module _ (m : Machine) (l : Lines) (limit : ℕ) (row : List ℕ) (opens : row_refusal m (length row) ≡ done) where
   made_and_counted :
       Makes m l limit row (run_of m l limit row).tally.passed (run_from m l limit row)
       × Counts m l row (run_of m l limit row).tally.passed (run_of m l limit row).tally
   unfolding empty_run
   made_and_counted =
-      let start = at (empty_run 0 m) row in
+      let start = at (empty_run done m) row in
       subst
       (λ (r : Run). Makes m l limit row r.ran.tally.passed r × Counts m l row r.ran.tally.passed r.ran.tally)
       (sym (open_run m l limit row opens))

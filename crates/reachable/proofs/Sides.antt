@@ -18,15 +18,14 @@ use Rattle.command.specs.declared.Chip.{Chip}
 use Rattle.command.specs.declared.Chip.TheVariants.{Wd1793, Wd1797}
 use Rattle.command.specs.declared.Class.{Class}
 use Rattle.command.specs.declared.Class.TheVariants.{Seeks, Steps, Works, Forces}
-use Rattle.command.specs.declared.Decoded.{Decoded}
-use Rattle.command.specs.declared.Decoded.TheVariants.{Taken, NoCommand}
+use Rattle.std.specs.Prelude.{Option, Some, None}
+use Rattle.command.specs.declared.Command.{Command}
 use Rattle.activity.specs.Limits.{busy_in}
 use Rattle.registers.specs.declared.Lines.{Lines}
 use Rattle.registers.specs.Registers.{read_refusal, load_refusal}
 use Rattle.accepting.specs.Accepting.{begin_side}
 use Rattle.wd.specs.declared.Machine.{Machine}
-use Rattle.wd.specs.declared.Started.{Started}
-use Rattle.wd.specs.declared.Loaded.{Loaded}
+use Rattle.wd.specs.declared.Called.{Called}
 use Rattle.wd.specs.declared.Read.{Read}
 use Rattle.wd.specs.declared.Passed.{Passed}
 use Rattle.wd.specs.Machines.{valid_of, fresh_machine, power_on}
@@ -38,19 +37,22 @@ use Rattle.reachable.specs.Growth.{Grown, power_on_call, load, read, byte_time_c
 use Rattle.reachable.specs.Sides.{TypeTwoOrThree, TypeOneOrFour, SideOutput}
 use Rattle.reachable.proofs.AsGiven.{load_machine}
 use Rattle.reachable.proofs.Fixed.{load_fixed, read_fixed, byte_time_fixed, run_fixed}
+use Rattle.refusals.specs.Numbers.{done}
+use Rattle.std.specs.Result.{is_ok}
+use Rattle.refusals.proofs.Outcomes.{not_ok-done, refused-done}
 
 -- ---- commands
 
 -- the output that a byte leaves, by what it is
-side_by : Bool → Chip → ℕ → Decoded → Bool
-side_by sso chip b (Taken command) = begin_side sso chip b (class_of command)
-side_by sso chip b NoCommand = sso
+side_by : Bool → Chip → ℕ → Option Command → Bool
+side_by sso chip b (Some command) = begin_side sso chip b (class_of command)
+side_by sso chip b None = sso
 
-answer_side : (m : Machine) (l : Lines) (b : ℕ) (d : Decoded)
+answer_side : (m : Machine) (l : Lines) (b : ℕ) (d : Option Command)
     → (command_answer m l b d).machine.sso ≡ side_by m.sso m.chip b d
 unfolding command_answer command_begun side_by
-answer_side m l b (Taken command) = refl
-answer_side m l b NoCommand = refl
+answer_side m l b (Some command) = refl
+answer_side m l b None = refl
 
 -- Types II and III are taken up like no other, or are no commands
 is_work : Class → Bool
@@ -59,9 +61,9 @@ is_work Steps = false
 is_work Works = true
 is_work Forces = false
 
-works_if : Decoded → Bool
-works_if (Taken command) = is_work (class_of command)
-works_if NoCommand = true
+works_if : Option Command → Bool
+works_if (Some command) = is_work (class_of command)
+works_if None = true
 
 type_two_three : (b : ℕ) → TypeTwoOrThree b → works_if (decoded_of Wd1797 b) ≡ true
 unfolding works_if is_work decoded_of decoded_by_both decoded_with_u class_of
@@ -75,31 +77,28 @@ work_sets sso b Steps e = never (cc)
 work_sets sso b Works e = refl
 work_sets sso b Forces e = never (cc)
 
-taken_sets : (m : Machine) (l : Lines) (b : ℕ) (d : Decoded)
+taken_sets : (m : Machine) (l : Lines) (b : ℕ) (d : Option Command)
     → works_if d ≡ true
-    → (command_answer m l b d).number ≡ 0
+    → (command_answer m l b d).outcome ≡ done
     → side_by m.sso Wd1797 b d ≡ bit_of b 1
 unfolding works_if side_by command_answer
-taken_sets m l b (Taken command) works done = work_sets m.sso b (class_of command) works
-taken_sets m l b NoCommand works done = absurd (omega (arith, done))
+taken_sets m l b (Some command) works accepted = work_sets m.sso b (class_of command) works
+taken_sets m l b None works accepted = absurd (refused-done _ accepted)
 
 sets : (m : Machine) (l : Lines) (b : ℕ)
     → m.chip ≡ Wd1797
     → TypeTwoOrThree b
-    → (load_register m l 0 b).number ≡ 0
+    → (load_register m l 0 b).outcome ≡ done
     → (load_register m l 0 b).machine.sso ≡ bit_of b 1
 unfolding load_register
 sets m l b is two =
-    by_cond (λ (q : Loaded). q.number ≡ 0 → q.machine.sso ≡ bit_of b 1)
-    (eqb (load_refusal (valid_of m) (busy_in m.activity) 0 b) 0)
-    (λ e done.
+    by_cond (λ (q : Called). q.outcome ≡ done → q.machine.sso ≡ bit_of b 1)
+    (is_ok (load_refusal (valid_of m) (busy_in m.activity) 0 b))
+    (λ e accepted.
     answer_side m l b (decoded_of m.chip b)
     ∙ ap (λ (chip : Chip). side_by m.sso chip b (decoded_of m.chip b)) is
-    ∙ taken_sets m l b (decoded_of m.chip b) (ap (λ (chip : Chip). works_if (decoded_of chip b)) is ∙ type_two_three b two) done)
-    (λ e done. absurd (omega (arith, done, refused e)))
-  where
-    refused : eqb (load_refusal (valid_of m) (busy_in m.activity) 0 b) 0 ≡ false → load_refusal (valid_of m) (busy_in m.activity) 0 b ≡ 0 → ⊥
-    refused e none = never (cc)
+    ∙ taken_sets m l b (decoded_of m.chip b) (ap (λ (chip : Chip). works_if (decoded_of chip b)) is ∙ type_two_three b two) accepted)
+    (λ e accepted. absurd (not_ok-done _ e accepted))
 
 -- Type I and Force Interrupt
 type_one_four : (sso : Bool) (chip : Chip) (b : ℕ) → TypeOneOrFour b → side_by sso chip b (decoded_of chip b) ≡ sso
@@ -110,7 +109,7 @@ type_one_four sso chip b (inr (low, high)) = sym (range (λ k. side_by sso chip 
 leaves : (m : Machine) (l : Lines) (b : ℕ) → TypeOneOrFour b → (load_register m l 0 b).machine.sso ≡ m.sso
 unfolding load_register
 leaves m l b other =
-    by_cond (λ (q : Loaded). q.machine.sso ≡ m.sso) (eqb (load_refusal (valid_of m) (busy_in m.activity) 0 b) 0)
+    by_cond (λ (q : Called). q.machine.sso ≡ m.sso) (is_ok (load_refusal (valid_of m) (busy_in m.activity) 0 b))
     (λ e. answer_side m l b (decoded_of m.chip b) ∙ type_one_four m.sso m.chip b other)
     (λ e. refl)
 
@@ -119,20 +118,20 @@ leaves m l b other =
 loads_leave : (m : Machine) (l : Lines) (number b : ℕ) → (number ≡ 0 → ⊥) → (load_register m l number b).machine.sso ≡ m.sso
 unfolding load_register
 loads_leave m l number b other =
-    by_cond (λ (q : Loaded). q.machine.sso ≡ m.sso) (eqb (load_refusal (valid_of m) (busy_in m.activity) number b) 0)
+    by_cond (λ (q : Called). q.machine.sso ≡ m.sso) (is_ok (load_refusal (valid_of m) (busy_in m.activity) number b))
     (λ e.
-    by_cond (λ (q : Loaded). q.machine.sso ≡ m.sso) (eqb number 0) (λ z. absurd (other (eqb-true number 0 z))) (λ z. refl))
+    by_cond (λ (q : Called). q.machine.sso ≡ m.sso) (eqb number 0) (λ z. absurd (other (eqb-true number 0 z))) (λ z. refl))
     (λ e. refl)
 
 reads_leave : (m : Machine) (l : Lines) (number : ℕ) → (read_register m l number).machine.sso ≡ m.sso
 unfolding read_register
 reads_leave m l number =
-    by_cond (λ (q : Read). q.machine.sso ≡ m.sso) (eqb (read_refusal (valid_of m) number) 0) (λ e. refl) (λ e. refl)
+    by_cond (λ (q : Read). q.machine.sso ≡ m.sso) (is_ok (read_refusal (valid_of m) number)) (λ e. refl) (λ e. refl)
 
 byte_times_leave : (m : Machine) (l : Lines) (row : List ℕ) → (byte_time m l row).machine.sso ≡ m.sso
 unfolding byte_time refused_at done_by cell_turn act_applied
 byte_times_leave m l row =
-    by_cond (λ (p : Passed). p.machine.sso ≡ m.sso) (eqb (row_refusal m (length row)) 0)
+    by_cond (λ (p : Passed). p.machine.sso ≡ m.sso) (is_ok (row_refusal m (length row)))
     (λ e. by_cond (λ (p : Passed). p.machine.sso ≡ m.sso) (ltb 511 (under m row)) (λ f. refl) (λ f. refl))
     (λ e. refl)
 
@@ -148,15 +147,15 @@ runs_on_leave (suc n) l r =
 runs_leave : (m : Machine) (l : Lines) (limit : ℕ) (row : List ℕ) → (run_of m l limit row).machine.sso ≡ m.sso
 unfolding run_from empty_run
 runs_leave m l limit row =
-    by_cond (λ (q : Run). q.ran.machine.sso ≡ m.sso) (eqb (row_refusal m (length row)) 0)
-    (λ e. runs_on_leave limit l (record { ran = empty_run 0 m; row = row }))
+    by_cond (λ (q : Run). q.ran.machine.sso ≡ m.sso) (is_ok (row_refusal m (length row)))
+    (λ e. runs_on_leave limit l (record { ran = empty_run done m; row = row }))
     (λ e. refl)
 
 -- ---- a WD1793
 
 fresh_off : (size : ℕ) (mfm : Bool) (chip : Chip) → (power_on size mfm chip).machine.sso ≡ false
 unfolding power_on fresh_machine
-fresh_off size mfm chip = by_cond (λ (q : Started). q.machine.sso ≡ false) (length_within size) (λ e. refl) (λ e. refl)
+fresh_off size mfm chip = by_cond (λ (q : Called). q.machine.sso ≡ false) (length_within size) (λ e. refl) (λ e. refl)
 
 class_off : (b : ℕ) (class : Class) → begin_side false Wd1793 b class ≡ false
 unfolding begin_side selects_side
@@ -165,17 +164,17 @@ class_off b Steps = refl
 class_off b Works = refl
 class_off b Forces = refl
 
-decoded_off : (b : ℕ) (d : Decoded) → side_by false Wd1793 b d ≡ false
+decoded_off : (b : ℕ) (d : Option Command) → side_by false Wd1793 b d ≡ false
 unfolding side_by
-decoded_off b (Taken command) = class_off b (class_of command)
-decoded_off b NoCommand = refl
+decoded_off b (Some command) = class_off b (class_of command)
+decoded_off b None = refl
 
 load_off : (m : Machine) (l : Lines) (number b : ℕ) → m.chip ≡ Wd1793 → m.sso ≡ false → (load_register m l number b).machine.sso ≡ false
 unfolding load_register
 load_off m l number b is off =
-    by_cond (λ (q : Loaded). q.machine.sso ≡ false) (eqb (load_refusal (valid_of m) (busy_in m.activity) number b) 0)
+    by_cond (λ (q : Called). q.machine.sso ≡ false) (is_ok (load_refusal (valid_of m) (busy_in m.activity) number b))
     (λ e.
-    by_cond (λ (q : Loaded). q.machine.sso ≡ false) (eqb number 0)
+    by_cond (λ (q : Called). q.machine.sso ≡ false) (eqb number 0)
     (λ z.
     answer_side m l b (decoded_of m.chip b)
     ∙ (λ i. side_by (off i) (is i) b (decoded_of m.chip b))

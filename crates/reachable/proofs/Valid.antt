@@ -10,16 +10,15 @@ use Rattle.common.proofs.Cases.{by_cond, both, all}
 use Rattle.command.specs.Bits.{settles_first}
 use Rattle.command.specs.Commands.{class_of, decoded_of}
 use Rattle.command.specs.declared.Chip.{Chip}
-use Rattle.command.specs.declared.Decoded.{Decoded}
-use Rattle.command.specs.declared.Decoded.TheVariants.{Taken, NoCommand}
+use Rattle.std.specs.Prelude.{Option, Some, None}
+use Rattle.command.specs.declared.Command.{Command}
 use Rattle.command.specs.declared.Class.{Class}
 use Rattle.command.specs.declared.Class.TheVariants.{Seeks, Steps, Works, Forces}
 use Rattle.activity.specs.Limits.{busy_in, counts_within}
 use Rattle.act.proofs.Within.{settle_within}
 use Rattle.registers.specs.declared.Lines.{Lines}
 use Rattle.wd.specs.declared.Machine.{Machine}
-use Rattle.wd.specs.declared.Started.{Started}
-use Rattle.wd.specs.declared.Loaded.{Loaded}
+use Rattle.wd.specs.declared.Called.{Called}
 use Rattle.wd.specs.declared.Read.{Read}
 use Rattle.wd.specs.declared.Passed.{Passed}
 use Rattle.scan.specs.Rows.{shortest_row, length_within}
@@ -33,6 +32,8 @@ use Rattle.wd.specs.Loads.{command_begun, command_answer, load_register}
 use Rattle.wd.specs.Rows.{row_refusal, under, refused_at, done_by, byte_time, ran_to, empty_run, stops_at, Run, next_in, onward, runs_on, run_from, run_of}
 use Rattle.wd.proofs.Valid.{held_ring, turn_valid}
 use Rattle.reachable.specs.Growth.{Grown, power_on_call, load, read, byte_time_call, run}
+use Rattle.refusals.specs.Numbers.{done}
+use Rattle.std.specs.Result.{is_ok}
 
 -- refusal 2 lets it through
 abbrev pub Valid : Machine → Type 0
@@ -52,7 +53,7 @@ fresh_valid size mfm chip e =
 pub power_on_valid : (size : ℕ) (mfm : Bool) (chip : Chip) → Valid (power_on size mfm chip).machine
 unfolding power_on length_within
 power_on_valid size mfm chip =
-    by_cond (λ (s : Started). Valid s.machine) (length_within size)
+    by_cond (λ (s : Called). Valid s.machine) (length_within size)
     (λ e. fresh_valid size mfm chip e)
     (λ e. fresh_valid shortest_row false chip refl)
 
@@ -71,33 +72,33 @@ begins_within ends mfm b Steps = refl
 begins_within ends mfm b Works = works_within ends (settles_first b) mfm
 begins_within ends mfm b Forces = refl
 
-command_valid : (m : Machine) (l : Lines) (b : ℕ) (d : Decoded) → Valid m → Valid (command_answer m l b d).machine
+command_valid : (m : Machine) (l : Lines) (b : ℕ) (d : Option Command) → Valid m → Valid (command_answer m l b d).machine
 unfolding command_answer command_begun valid_of
-command_valid m l b (Taken command) v =
+command_valid m l b (Some command) v =
     all (both (ring_within m.ring) (counts_within m.activity) v).0
     (begins_within (ends_at_once command l) m.mfm b (class_of command))
-command_valid m l b NoCommand v = v
+command_valid m l b None v = v
 
 pub load_valid : (m : Machine) (l : Lines) (number b : ℕ) → Valid m → Valid (load_register m l number b).machine
 unfolding load_register valid_of
 load_valid m l number b v =
-    by_cond (λ (q : Loaded). Valid q.machine)
-    (eqb (load_refusal (valid_of m) (busy_in m.activity) number b) 0)
+    by_cond (λ (q : Called). Valid q.machine)
+    (is_ok (load_refusal (valid_of m) (busy_in m.activity) number b))
     (λ e.
-    by_cond (λ (q : Loaded). Valid q.machine) (eqb number 0) (λ z. command_valid m l b (decoded_of m.chip b) v) (λ z. v))
+    by_cond (λ (q : Called). Valid q.machine) (eqb number 0) (λ z. command_valid m l b (decoded_of m.chip b) v) (λ z. v))
     (λ e. v)
 
 pub read_valid : (m : Machine) (l : Lines) (number : ℕ) → Valid m → Valid (read_register m l number).machine
 unfolding read_register valid_of
 read_valid m l number v =
-    by_cond (λ (q : Read). Valid q.machine) (eqb (read_refusal (valid_of m) number) 0) (λ e. v) (λ e. v)
+    by_cond (λ (q : Read). Valid q.machine) (is_ok (read_refusal (valid_of m) number)) (λ e. v) (λ e. v)
 
 -- ---- byte times and runs
 
 pub byte_time_valid : (m : Machine) (l : Lines) (row : List ℕ) → Valid m → Valid (byte_time m l row).machine
 unfolding byte_time refused_at done_by
 byte_time_valid m l row v =
-    by_cond (λ (p : Passed). Valid p.machine) (eqb (row_refusal m (length row)) 0)
+    by_cond (λ (p : Passed). Valid p.machine) (is_ok (row_refusal m (length row)))
     (λ e.
     by_cond (λ (p : Passed). Valid p.machine) (ltb 511 (under m row)) (λ f. v) (λ f. turn_valid m l (under m row) v))
     (λ e. v)
@@ -117,8 +118,8 @@ runs_on_valid (suc n) l r v =
 pub run_valid : (m : Machine) (l : Lines) (limit : ℕ) (row : List ℕ) → Valid m → Valid (run_of m l limit row).machine
 unfolding run_from empty_run
 run_valid m l limit row v =
-    by_cond (λ (q : Run). Valid q.ran.machine) (eqb (row_refusal m (length row)) 0)
-    (λ e. runs_on_valid limit l (record { ran = empty_run 0 m; row = row }) v)
+    by_cond (λ (q : Run). Valid q.ran.machine) (is_ok (row_refusal m (length row)))
+    (λ e. runs_on_valid limit l (record { ran = empty_run done m; row = row }) v)
     (λ e. v)
 
 -- ---- all of them

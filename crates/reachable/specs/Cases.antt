@@ -3,6 +3,7 @@ use Rattle.std.specs.Prelude.{Bool, List, [], ◌∷◌, ℕ}
 use Rattle.crc.specs.Crc.{crc_over, preset}
 use Rattle.command.specs.declared.Chip.{Chip}
 use Rattle.registers.specs.declared.Lines.{Lines}
+use Rattle.refusals.specs.Numbers.{number_in}
 use Rattle.wd.specs.Machines.{fresh_machine, power_on}
 use Rattle.wd.specs.Loads.{load_register}
 
@@ -16,8 +17,8 @@ pub data Case : Type 0 where
 -- power-on, whatever its density, its chip and the lines; the number of power-on.
 abbrev pub given_by : Bool → Chip → Lines → Case → ℕ
 given_by mfm chip l (field bytes) = crc_over preset bytes
-given_by mfm chip l (command b) = (load_register (fresh_machine 2048 mfm chip) l 0 b).number
-given_by mfm chip l (size length) = (power_on length mfm chip).number
+given_by mfm chip l (command b) = number_in (load_register (fresh_machine 2048 mfm chip) l 0 b).outcome
+given_by mfm chip l (size length) = number_in (power_on length mfm chip).outcome
 
 -- "FE gives EF21, FB BF84, F8 8FE7; A1 A1 A1 CDB4, then FE B230; FE 00 00 01 00 D2C3."
 -- "80, C4 accepted; 9F, C3 refused 7."

@@ -8,6 +8,7 @@ use Rattle.wd.specs.Reads.{read_register}
 use Rattle.wd.specs.Loads.{load_register}
 use Rattle.wd.specs.Rows.{byte_time, run_of}
 use Rattle.reachable.specs.Growth.{Grown}
+use Rattle.refusals.specs.Numbers.{done}
 
 -- the bytes of Types II and III
 abbrev pub TypeTwoOrThree : ℕ → Type 0
@@ -22,11 +23,11 @@ pub record SideOutput (m : Machine) : Type 0 where
   pub set : (l : Lines) (b : ℕ)
       → m.chip ≡ Wd1797
       → TypeTwoOrThree b
-      → (load_register m l 0 b).number ≡ 0
+      → (load_register m l 0 b).outcome ≡ done
       → (load_register m l 0 b).machine.sso ≡ bit_of b 1
   -- the other commands leave it, and so does every other call, refused or not
   pub left : (l : Lines) (b : ℕ) → TypeOneOrFour b → (load_register m l 0 b).machine.sso ≡ m.sso
-  pub refused : (l : Lines) (b : ℕ) → ((load_register m l 0 b).number ≡ 0 → ⊥) → (load_register m l 0 b).machine.sso ≡ m.sso
+  pub refused : (l : Lines) (b : ℕ) → ((load_register m l 0 b).outcome ≡ done → ⊥) → (load_register m l 0 b).machine.sso ≡ m.sso
   pub loads : (l : Lines) (number b : ℕ) → (number ≡ 0 → ⊥) → (load_register m l number b).machine.sso ≡ m.sso
   pub reads : (l : Lines) (number : ℕ) → (read_register m l number).machine.sso ≡ m.sso
   pub byte_times : (l : Lines) (row : List ℕ) → (byte_time m l row).machine.sso ≡ m.sso

@@ -13,17 +13,9 @@ fn missed(s: Seen, left: u16, passed: u8, run: u8) -> Act
     ensures { result ≡ window_missed s left passed run }
 {
     if passed as u16 + 1 < scan::window(s.mfm) as u16 {
-        return Act {
-            next: Activity::Window(left, passed + 1, run),
-            deed: Deed::Nothing,
-            cell: s.cell,
-        };
+        return s.go_on(Activity::Window(left, passed + 1, run));
     }
-    Act {
-        next: Activity::Idle, // and no search for another ID
-        deed: Deed::NotFound,
-        cell: s.cell,
-    }
+    s.pass(Activity::Idle, Deed::NotFound) // and no search for another ID
 }
 
 #[tactic(auto, unfolding(crate::specs::Reading::window_step))]
@@ -32,15 +24,11 @@ fn met(s: Seen, left: u16, passed: u8, sought: Sought) -> Act
 {
     match sought {
         Sought::On(run) => missed(s, left, passed, run),
-        Sought::Met(mark) => Act {
-            next: Activity::Data(
-                left,
-                scan::mark_crc(s.mfm, scan::mark_byte(mark)),
-                scan::is_deleted(mark),
-            ),
-            deed: Deed::Nothing,
-            cell: s.cell,
-        },
+        Sought::Met(mark) => s.go_on(Activity::Data(
+            left,
+            scan::mark_crc(s.mfm, mark.byte()),
+            mark.is_deleted(),
+        )),
     }
 }
 
@@ -65,28 +53,16 @@ fn follows(multiple: bool, crc: u16) -> bool
 pub fn read(s: Seen, multiple: bool, left: u16, crc: u16, deleted: bool) -> Act
     ensures { result ≡ data_cell s multiple left crc deleted }
 {
-    let byte = (s.cell % 256) as u8;
+    let byte = s.byte();
     let next = crc::step(crc, byte);
     if 3 <= left {
-        return Act {
-            next: Activity::Data(left - 1, next, deleted),
-            deed: Deed::Deliver(byte),
-            cell: s.cell,
-        };
+        return s.pass(Activity::Data(left - 1, next, deleted), Deed::Deliver(byte));
     }
     if left == 2 {
-        return Act {
-            next: Activity::Data(1, next, deleted),
-            deed: Deed::Nothing,
-            cell: s.cell,
-        };
+        return s.go_on(Activity::Data(1, next, deleted));
     }
     let another = follows(multiple, next);
-    Act {
-        next: again(another),
-        deed: Deed::Record(deleted, next != 0, another),
-        cell: s.cell,
-    }
+    s.pass(again(another), Deed::Record(deleted, next != 0, another))
 }
 
 #[tactic(auto, unfolding(crate::specs::Reading::address_begun))]
@@ -105,31 +81,20 @@ fn hunted(s: Seen, pulses: u8, passed: Passed) -> Act
     ensures { result ≡ hunt_step s pulses passed }
 {
     match passed {
-        Passed::Gap(run) => Act {
-            next: Activity::Hunt(pulses, run),
-            deed: Deed::Nothing,
-            cell: s.cell,
-        },
-        Passed::Mark(byte) => Act {
-            next: begin_address(s.mfm, pulses, byte),
-            deed: Deed::Nothing,
-            cell: s.cell,
-        },
+        Passed::Gap(run) => s.go_on(Activity::Hunt(pulses, run)),
+        Passed::Mark(byte) => s.go_on(begin_address(s.mfm, pulses, byte)),
     }
 }
 
-// Read Address before its mark.
+// Read Address before its mark. Its end at the fifth pulse stands in `search::search` too: one function for both would take a
+// closure, and no public call has a `requires`.
 #[tactic(auto, unfolding(crate::specs::Reading::hunt_cell))]
 pub fn hunt(s: Seen, seen: u8, run: u8) -> Act
     ensures { result ≡ hunt_cell s seen run }
 {
     let count = pulses(seen, s.index);
     if 5 <= count {
-        return Act {
-            next: Activity::Idle,
-            deed: Deed::NotFound,
-            cell: s.cell,
-        };
+        return s.pass(Activity::Idle, Deed::NotFound);
     }
     hunted(s, count, scan::pass(s.mfm, s.cell, run))
 }
@@ -146,18 +111,13 @@ fn track_of(passed: u8, byte: u8, track: u8) -> u8
 pub fn address(s: Seen, passed: u8, crc: u16, track: u8) -> Act
     ensures { result ≡ address_cell s passed crc track }
 {
-    let byte = (s.cell % 256) as u8;
+    let byte = s.byte();
     let next = crc::step(crc, byte);
     if 5 <= passed {
-        return Act {
-            next: Activity::Idle,
-            deed: Deed::Named(byte, track, next != 0),
-            cell: s.cell,
-        };
+        return s.pass(Activity::Idle, Deed::Named(byte, track, next != 0));
     }
-    Act {
-        next: Activity::Address(passed + 1, next, track_of(passed, byte, track)),
-        deed: Deed::Deliver(byte),
-        cell: s.cell,
-    }
+    s.pass(
+        Activity::Address(passed + 1, next, track_of(passed, byte, track)),
+        Deed::Deliver(byte),
+    )
 }

@@ -4,10 +4,12 @@ use Rattle.registers.specs.declared.Regs.{Regs}
 use Rattle.registers.specs.declared.Wires.{Wires}
 use Rattle.registers.specs.declared.Status.{Status}
 use Rattle.command.specs.Commands.{within}
+use Rattle.refusals.specs.declared.Refusal.TheVariants.{Machine, Register, Busy}
+use Rattle.refusals.specs.Numbers.{Outcome, done, refused}
 
 -- 2, and 5: "register number above 3"
-unfoldable pub read_refusal : Bool → ℕ → ℕ
-read_refusal valid number = cond valid (cond (leb number 3) 0 5) 2
+unfoldable pub read_refusal : Bool → ℕ → Outcome
+read_refusal valid number = cond valid (cond (leb number 3) done (refused Register)) (refused Machine)
 
 -- "Reads 0 to 3: status, TR, SR, DR."
 unfoldable pub read_byte : Regs → Status → ℕ → ℕ
@@ -23,8 +25,10 @@ unfoldable pub guarded : ℕ → ℕ → Bool
 guarded number b = eqb number 1 || eqb number 2 || (eqb number 0 && not (within 0xD0 0xDF b))
 
 -- 2; 5: "register number above 3"; 6: ".. loaded while Busy"
-unfoldable pub load_refusal : Bool → Bool → ℕ → ℕ → ℕ
-load_refusal valid busy number b = cond valid (cond (leb number 3) (cond (busy && guarded number b) 6 0) 5) 2
+unfoldable pub load_refusal : Bool → Bool → ℕ → ℕ → Outcome
+load_refusal valid busy number b =
+    cond valid (cond (leb number 3) (cond (busy && guarded number b) (refused Busy) done) (refused Register))
+    (refused Machine)
 
 -- "Writes 0 to 3: command, TR, SR, DR."
 unfoldable pub load_regs : Regs → ℕ → ℕ → Regs

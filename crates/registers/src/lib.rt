@@ -37,6 +37,18 @@ pub struct Flags {
     pub lost: bool,
 }
 
+impl Flags {
+    // Type I, with nothing on.
+    pub const CLEAR: Flags = Flags {
+        type1: true,
+        protected: false,
+        deleted: false,
+        missing: false,
+        crc: false,
+        lost: false,
+    };
+}
+
 // Loaded, and the direction of the last step.
 #[derive(Clone, Copy)]
 pub struct Head {

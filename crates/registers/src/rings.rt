@@ -20,13 +20,13 @@ pub fn next(ring: Ring) -> Ring
     if ring.position < ring.length {
         if ring.position + 1 == ring.length {
             return Ring {
-                length: ring.length,
                 position: 0,
+                ..ring
             };
         }
         return Ring {
-            length: ring.length,
             position: ring.position + 1,
+            ..ring
         };
     }
     ring
@@ -40,7 +40,7 @@ pub fn look(mfm: bool, ring: Ring, regs: Regs, drq: bool, lines: Lines, cell: u1
     Seen {
         mfm,
         index: ring.position == 0,
-        last: ring.position as u32 + 1 == ring.length as u32,
+        last: u32::from(ring.position) + 1 == u32::from(ring.length),
         hlt: lines.hlt,
         track0: lines.track0,
         drq,

@@ -1,6 +1,6 @@
 -- Demand 1, "Safe on every input": each call gives a number of document 01's table exactly when the table says, and hands
 -- back what it says. Assumes nothing.
-use mathlib.Core.Path.{◌≡◌, refl, sym, ◌∙◌}
+use mathlib.Core.Path.{◌≡◌, refl, sym, ◌∙◌, ap}
 use mathlib.Core.Bool.{Bool, true, false, ◌&&◌}
 use mathlib.Core.List.{List}
 use mathlib.Core.Logic.{⊎_elim}
@@ -11,7 +11,8 @@ use lib.ListN.{length}
 use borrow.Author.Tests.{leb-true, leb-false, ltb-true, ltb-false, eqb-true, eqb-false}
 use Rattle.common.proofs.Cases.{by_cond, never, both, all}
 use Rattle.command.specs.declared.Chip.{Chip}
-use Rattle.command.specs.declared.Decoded.{Decoded}
+use Rattle.std.specs.Prelude.{Option}
+use Rattle.command.specs.declared.Command.{Command}
 use Rattle.activity.specs.Limits.{busy_in}
 use Rattle.registers.specs.declared.Lines.{Lines}
 use Rattle.scan.specs.Rows.{length_within}
@@ -24,13 +25,17 @@ use Rattle.wd.specs.Rows.{row_refusal, under, refused_at, done_by, byte_time, by
 use Rattle.wd.proofs.Valid.{row_open}
 use Rattle.wd.proofs.Runs.{at}
 use Rattle.reachable.specs.Growth.{Grown}
-use Rattle.reachable.specs.ByteTimes.{machine_after, row_after, number_after, signals, Stops, by_limit, by_wire, by_cell, Makes, Counts}
+use Rattle.reachable.specs.ByteTimes.{machine_after, row_after, outcome_after, signals, Stops, by_limit, by_wire, by_cell, Makes, Counts}
 use Rattle.reachable.proofs.Valid.{Valid, grown_valid}
 use Rattle.reachable.proofs.AsGiven.{byte_time_machine, byte_time_row_lem, load_machine, read_machine_and_byte}
 use Rattle.reachable.proofs.StatusBits.{status_busy}
 use Rattle.reachable.proofs.Runs.{run_makes, run_counts}
+use Rattle.refusals.specs.declared.Refusal.{Refusal}
+use Rattle.refusals.specs.Numbers.{number_of, refused, Outcome, number_in, done}
 use Rattle.safe.specs.Demand1.{OutOfRange, Invalid, NotItsLength, AboveFlagged, NoSuchRegister, WhileBusy, IsCommand, NoCommand, ComesTo, AtPowerOn, power_on_1, AtLoad, load_2, load_5, load_6, load_7, AtRead, read_2, read_5, AtByteTime, byte_time_2, byte_time_3, byte_time_4, AtRun, run_2, run_3, run_4, Given, SafePowerOn, SafeLoad, SafeRead, SafeByteTime, SafeRun}
 use Rattle.safe.proofs.Refusals.{lowest, nothing, in_range, out_of_range, invalid, valid, guards, is_guarded, Takes, takes, given_row, refuses, named}
+use Rattle.refusals.specs.declared.Refusal.TheVariants as refusal
+use Rattle.refusals.proofs.Outcomes.{refused-done, done_number}
 
 -- ---- power-on
 
@@ -38,7 +43,7 @@ power_on_rows : {size : ℕ} (P : ℕ → Type 0) → (OutOfRange size → P 1) 
 power_on_rows P one j (power_on_1 out) = one out
 
 pub power_on_safe : (size : ℕ) (mfm : Bool) (chip : Chip) → SafePowerOn size chip (power_on size mfm chip)
-unfolding power_on length_within
+unfolding number_in number_of power_on length_within
 power_on_safe size mfm chip =
     by_cond (SafePowerOn size chip) (length_within size)
     (λ e.
@@ -70,17 +75,17 @@ module _ (m : Machine) (l : Lines) (number b : ℕ) where
   load_rows P two five six seven j (load_6 c) = six c
   load_rows P two five six seven j (load_7 z c) = seven z c
 
-  commanded : {d : Decoded} → Takes (IsCommand m.chip b) d → number ≡ 0
+  commanded : {d : Option Command} → Takes (IsCommand m.chip b) d → number ≡ 0
       → (Invalid m → ⊥) → (NoSuchRegister number → ⊥) → (WhileBusy m l number b → ⊥)
-      → Given (AtLoad m l number b) (command_answer m l b d).number
-  unfolding command_answer
+      → Given (AtLoad m l number b) (number_in (command_answer m l b d).outcome)
+  unfolding number_in number_of command_answer
   commanded (takes c is) z two five six = nothing (AtLoad m l number b) (load_rows (λ j. ⊥) two five six (λ e none. none is))
   commanded (refuses none) z two five six =
       lowest (AtLoad m l number b) 7 (omega arith) (load_7 z none)
       (load_rows (λ j. 7 ≤ j) (λ c. absurd (two c)) (λ c. absurd (five c)) (λ c. absurd (six c)) (λ z c. omega arith))
 
-  load_given : Given (AtLoad m l number b) (load_register m l number b).number
-  unfolding load_register load_refusal
+  load_given : Given (AtLoad m l number b) (number_in (load_register m l number b).outcome)
+  unfolding number_in number_of load_register load_refusal
   load_given =
       by (valid_of m) refl (leb number 3) refl (busy_in m.activity && guarded number b) refl (eqb number 0) refl
     where
@@ -99,7 +104,7 @@ module _ (m : Machine) (l : Lines) (number b : ℕ) where
 
       by : (fits : Bool) → valid_of m ≡ fits → (low : Bool) → leb number 3 ≡ low
           → (held : Bool) → (busy_in m.activity && guarded number b) ≡ held → (first : Bool) → eqb number 0 ≡ first
-          → Given (AtLoad m l number b) (load_register m l number b).number
+          → Given (AtLoad m l number b) (number_in (load_register m l number b).outcome)
       by false v low r held g first z =
           rw v
           (lowest (AtLoad m l number b) 2 (omega arith) (load_2 (invalid m v))
@@ -128,12 +133,12 @@ module _ (m : Machine) (l : Lines) (number : ℕ) where
   read_rows P two five j (read_2 c) = two c
   read_rows P two five j (read_5 c) = five c
 
-  read_given : Given (AtRead m number) (read_register m l number).number
-  unfolding read_register read_refusal
+  read_given : Given (AtRead m number) (number_in (read_register m l number).outcome)
+  unfolding number_in number_of read_register read_refusal
   read_given = by (valid_of m) refl (leb number 3) refl
     where
       by : (fits : Bool) → valid_of m ≡ fits → (low : Bool) → leb number 3 ≡ low
-          → Given (AtRead m number) (read_register m l number).number
+          → Given (AtRead m number) (number_in (read_register m l number).outcome)
       by false v low r =
           rw v
           (lowest (AtRead m number) 2 (omega arith) (read_2 (invalid m v))
@@ -164,13 +169,13 @@ module _ (m : Machine) (l : Lines) (row : List ℕ) where
   byte_time_rows P two three four j (byte_time_3 c) = three c
   byte_time_rows P two three four j (byte_time_4 c) = four c
 
-  byte_time_given : Given (AtByteTime m row) (byte_time m l row).number
-  unfolding byte_time row_refusal refused_at done_by
+  byte_time_given : Given (AtByteTime m row) (number_in (byte_time m l row).outcome)
+  unfolding number_in number_of byte_time row_refusal refused_at done_by
   byte_time_given = by (valid_of m) refl (eqb (length row) m.ring.length) refl (ltb 511 (under m row)) refl
     where
       by : (fits : Bool) → valid_of m ≡ fits → (same : Bool) → eqb (length row) m.ring.length ≡ same
           → (above : Bool) → ltb 511 (under m row) ≡ above
-          → Given (AtByteTime m row) (byte_time m l row).number
+          → Given (AtByteTime m row) (number_in (byte_time m l row).outcome)
       by false v same e above f =
           rw v
           (lowest (AtByteTime m row) 2 (omega arith) (byte_time_2 (invalid m v))
@@ -197,13 +202,14 @@ module _ (m : Machine) (l : Lines) (row : List ℕ) where
       }
 
   -- 4 is given for the cell
-  four_above : (byte_time m l row).number ≡ 4 → AboveFlagged m row
+  four_above : (byte_time m l row).outcome ≡ refused refusal.Cell → AboveFlagged m row
+  unfolding number_in number_of
   four_above e =
       byte_time_rows (λ j. j ≡ 4 → AboveFlagged m row) (λ c z. absurd (omega arith)) (λ c z. absurd (omega arith)) (λ c z. c)
-      4 (given_row byte_time_given 4 (omega arith) e) refl
+      4 (given_row byte_time_given 4 (omega arith) (ap number_in e)) refl
 
-  done_below : (byte_time m l row).number ≡ 0 → AboveFlagged m row → ⊥
-  done_below e above = byte_time_given.done.0 e 4 (byte_time_4 above)
+  done_below : (byte_time m l row).outcome ≡ done → AboveFlagged m row → ⊥
+  done_below e above = byte_time_given.done.0 (done_number _ e) 4 (byte_time_4 above)
 
 -- ---- runs
 
@@ -220,21 +226,21 @@ module _ (m : Machine) (l : Lines) (limit : ℕ) (row : List ℕ) where
   run_rows P two three four j (run_4 n comes c) = four n comes c
 
   -- refused before its first byte time
-  refused_safe : (number : ℕ) → 0 < number → number < 4
-      → Given (AtRun m l limit row) number
-      → SafeRun m l limit row (at (empty_run number m) row)
-  unfolding empty_run
-  refused_safe number some early given =
+  refused_safe : (r : Refusal) → number_of r < 4
+      → Given (AtRun m l limit row) (number_of r)
+      → SafeRun m l limit row (at (empty_run (refused r) m) row)
+  unfolding empty_run number_in
+  refused_safe r early given =
       record {
         given = given;
         refused = λ h. record { machine = refl; untouched = refl; passed = refl; inward = refl; outward = refl };
-        done = λ e. absurd (omega arith);
+        done = λ e. absurd (refused-done r e);
         stopped = λ e. absurd (omega arith);
       }
 
   module _ (v : Valid m) (same : length row ≡ m.ring.length) where
     -- a run that makes n byte times does not come to a cell above 511 before them
-    module _ (n : ℕ) (accepted : (k : ℕ) → k < n → number_after k m l row ≡ 0)
+    module _ (n : ℕ) (accepted : (k : ℕ) → k < n → outcome_after k m l row ≡ done)
         (quiet : (k : ℕ) → suc k < n → signals (machine_after (suc k) m l row) ≡ false) where
       passed : (k : ℕ) → k < n → AboveFlagged (machine_after k m l row) (row_after k m l row) → ⊥
       passed k low = done_below (machine_after k m l row) l (row_after k m l row) (accepted k low)
@@ -251,8 +257,9 @@ module _ (m : Machine) (l : Lines) (limit : ℕ) (row : List ℕ) where
               rw here (last (omega arith))
 
       -- where 4 stops it
-      halted : {number : ℕ} → Stops m l limit row n number → number ≡ 4
+      halted : {o : Outcome} → Stops m l limit row n o → number_in o ≡ 4
           → ComesTo m l limit row n × AboveFlagged (machine_after n m l row) (row_after n m l row)
+      unfolding number_in
       halted (by_limit e) z = absurd (omega arith)
       halted (by_wire some e) z = absurd (omega arith)
       halted (by_cell below last e) z = (
@@ -265,7 +272,8 @@ module _ (m : Machine) (l : Lines) (limit : ℕ) (row : List ℕ) where
       unstopped zero k some low comes = absurd (omega arith)
       unstopped (suc j) k some low comes = comes.quiet j (omega arith)
 
-      makes_given : {number : ℕ} → Stops m l limit row n number → Given (AtRun m l limit row) number
+      makes_given : {o : Outcome} → Stops m l limit row n o → Given (AtRun m l limit row) (number_in o)
+      unfolding number_in number_of
       makes_given (by_limit e) =
           nothing (AtRun m l limit row)
           (run_rows (λ j. ⊥) (valid m v) (λ c. c same)
@@ -299,28 +307,28 @@ module _ (m : Machine) (l : Lines) (limit : ℕ) (row : List ℕ) where
               record { comes = h.0; cell = h.1; machine = made.left; writes = made.written; counts = counts };
         }
       where
-        given : Given (AtRun m l limit row) r.ran.number
+        given : Given (AtRun m l limit row) (number_in r.ran.outcome)
         given = makes_given r.ran.tally.passed made.accepted made.quiet made.stops
 
-        not : (k : ℕ) → 0 < k → k < 4 → r.ran.number ≡ k → ⊥
+        not : (k : ℕ) → 0 < k → k < 4 → number_in r.ran.outcome ≡ k → ⊥
         not k some low e =
             run_rows (λ j. j < 4 → ⊥) (λ c h. valid m v c) (λ c h. c same) (λ n comes c h. absurd (omega arith)) k
             (given_row given k some e) low
 
   pub run_safe : SafeRun m l limit row (run_from m l limit row)
-  unfolding run_from row_refusal
+  unfolding number_of run_from row_refusal
   run_safe = by (valid_of m) refl (eqb (length row) m.ring.length) refl
     where
       by : (fits : Bool) → valid_of m ≡ fits → (same : Bool) → eqb (length row) m.ring.length ≡ same
           → SafeRun m l limit row (run_from m l limit row)
       by false v same e =
           rw v
-          (refused_safe 2 (omega arith) (omega arith)
+          (refused_safe refusal.Machine (omega arith)
           (lowest (AtRun m l limit row) 2 (omega arith) (run_2 (invalid m v))
           (run_rows (λ j. 2 ≤ j) (λ c. omega arith) (λ c. omega arith) (λ n comes c. omega arith))))
       by true v false e =
           rw (v, e)
-          (refused_safe 3 (omega arith) (omega arith)
+          (refused_safe refusal.Track (omega arith)
           (lowest (AtRun m l limit row) 3 (omega arith) (run_3 (eqb-false _ _ e))
           (run_rows (λ j. 3 ≤ j) (λ c. absurd (valid m v c)) (λ c. omega arith) (λ n comes c. omega arith))))
       by true v true e =

@@ -11,6 +11,10 @@ use lib.ListN.{length, get_or}
 use borrow.Author.Tests.{leb-true, leb-false, ltb-true, ltb-false, eqb-true, eqb-false}
 use Rattle.common.proofs.Cases.{by_cond, never, both, all}
 use Rattle.common.specs.Bits.{bit_of}
+use Rattle.refusals.specs.declared.Refusal.{Refusal}
+use Rattle.refusals.specs.declared.Refusal.TheVariants.{End, Side, Room}
+use Rattle.refusals.specs.Numbers.{number_of, number_in}
+use Rattle.refusals.proofs.Done.{number_some}
 use Rattle.picture.specs.declared.Answer.{Answer}
 use Rattle.picture.specs.declared.Kind.{Kind}
 use Rattle.picture.specs.Kinds.{kind_of, shape_of, length_of}
@@ -110,13 +114,18 @@ module _ (bytes : List ℕ) (room : ℕ) where
   -- an answer's number is given in its turn, and where it is 0 its kind is that of the first byte
   abbrev pub Told : Answer → Type 0
   Told r =
-      InTurn reader_order (AtReader bytes room) r.number × (r.number ≡ 0 → IsKind (kind_byte bytes) (form_of r.kind))
+      InTurn reader_order (AtReader bytes room) (number_in r.outcome)
+      × (number_in r.outcome ≡ 0 → IsKind (kind_byte bytes) (form_of r.kind))
 
-  pub turn : (t : ℕ) → 0 < reader_order t → AtReader bytes room t → ((s : ℕ) → AtReader bytes room s → t ≤ s)
-      → Told (refused_by (reader_order t))
-  unfolding refused_by
-  turn t some at first =
-      (first_turn reader_order (AtReader bytes room) t some at first, λ none. absurd (omega (arith, some, none)))
+  -- a refusal whose number is that of a turn
+  pub turn : (t : ℕ) (refusal : Refusal) → number_of refusal ≡ reader_order t
+      → AtReader bytes room t → ((s : ℕ) → AtReader bytes room s → t ≤ s) → Told (refused_by refusal)
+  unfolding refused_by number_in
+  turn t refusal is at first =
+      let some = number_some refusal in (
+        rw is (first_turn reader_order (AtReader bytes room) t (omega arith) at first),
+        λ none. absurd (omega (arith, some, none)),
+      )
 
   pub reader_rows : (P : ℕ → Type 0)
       → (Empty bytes → P 0)
@@ -163,19 +172,19 @@ module _ (bytes : List ℕ) (room : ℕ) where
         by true f true g = let h = all f g in never (cc)
 
     pub kind_given : Told (answer_of bytes (judged_for bytes room k))
-    unfolding answer_of judged_for refused_by taken_from
+    unfolding answer_of judged_for taken_from number_in number_of
     kind_given =
         by_cond (λ v. Told (answer_of bytes v)) (leb (length bytes) (body_length k))
         (λ e.
         let short = leb-true (length bytes) (body_length k) e in
-        turn 2 (omega arith) (ends_early (form_of k) is (omega arith))
+        turn 2 End refl (ends_early (form_of k) is (omega arith))
         (reader_rows (λ t. 2 ≤ t) (λ h. absurd (some h)) (λ h. absurd (known h)) (λ form j h. omega arith)
         (λ form j h. omega arith) (λ form j h. omega arith)))
         (λ e.
         let there = leb-false (length bytes) (body_length k) e in
         by_cond (λ v. Told (answer_of bytes v)) (ltb room (length_of k))
         (λ f.
-        turn 3 (omega arith) (no_room (form_of k) is (ltb-true room (length_of k) f))
+        turn 3 Room refl (no_room (form_of k) is (ltb-true room (length_of k) f))
         (reader_rows (λ t. 3 ≤ t) (λ h. absurd (some h)) (λ h. absurd (known h))
         (λ form j h. absurd (long there form j h)) (λ form j h. omega arith) (λ form j h. omega arith)))
         (λ f.
@@ -184,7 +193,7 @@ module _ (bytes : List ℕ) (room : ℕ) where
         (λ g.
         (nothing (AtReader bytes room) (reader_rows (λ t. ⊥) some known (long there) (wide fits) (clean g)), λ _. is))
         (λ g.
-        turn 4 (omega arith) (unsound (form_of k) is (unclean g))
+        turn 4 Side refl (unsound (form_of k) is (unclean g))
         (reader_rows (λ t. 4 ≤ t) (λ h. absurd (some h)) (λ h. absurd (known h))
         (λ form j h. absurd (long there form j h)) (λ form j h. absurd (wide fits form j h))
         (λ form j h. omega arith)))))

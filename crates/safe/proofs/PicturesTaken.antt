@@ -9,6 +9,9 @@ use lib.Dec.{eqb}
 use lib.ListN.{length, get_or}
 use borrow.Author.Tests.{eqb-true, eqb-false}
 use Rattle.common.proofs.Cases.{by_cond}
+use Rattle.refusals.specs.declared.Refusal.TheVariants as refusal
+use Rattle.refusals.specs.declared.Refusal.TheVariants.{End}
+use Rattle.refusals.specs.Numbers.{number_of, number_in}
 use Rattle.picture.specs.declared.Kind.{Kind}
 use Rattle.picture.specs.declared.Kind.TheVariants.{Fm, Mfm, EightInchFm, EightInchMfm}
 use Rattle.picture.specs.Kinds.{kind_of, shape_of, length_of}
@@ -20,10 +23,10 @@ use Rattle.safe.proofs.Pictures.{flag_clear, flag_set, form_of, Told, turn, read
 
 module _ (bytes : List ℕ) (room : ℕ) where
   reader_given : Told bytes room (reader_answer bytes room)
-  unfolding reader_answer answer_of verdict_of judged_of kind_of shape_of body_length
+  unfolding reader_answer answer_of verdict_of judged_of kind_of shape_of body_length number_of
   reader_given =
       by_cond (λ v. Told bytes room (answer_of bytes v)) (eqb (length bytes) 0)
-      (λ e. turn bytes room 0 (omega arith) (empty (eqb-true _ _ e)) (λ t asked. omega arith))
+      (λ e. turn bytes room 0 End refl (empty (eqb-true _ _ e)) (λ t asked. omega arith))
       (λ e.
       let some = eqb-false (length bytes) 0 e in
       by_cond (λ n. Told bytes room (answer_of bytes (judged_of bytes room n))) (eqb (kind_byte bytes) 0x46)
@@ -38,7 +41,7 @@ module _ (bytes : List ℕ) (room : ℕ) where
       by_cond (λ n. Told bytes room (answer_of bytes (judged_of bytes room n))) (eqb (kind_byte bytes) 0x6D)
       (λ i. kind_given bytes room EightInchMfm (eight_inch_mfm (eqb-true _ _ i)) some)
       (λ i.
-      turn bytes room 1 (omega arith)
+      turn bytes room 1 refusal.Kind refl
       (no_kind (none (eqb-false _ _ f) (eqb-false _ _ g) (eqb-false _ _ h) (eqb-false _ _ i)))
       (reader_rows bytes room (λ t. 1 ≤ t) (λ h. absurd (some h)) (λ h. omega arith) (λ form j h. omega arith)
       (λ form j h. omega arith) (λ form j h. omega arith)))))))
@@ -66,7 +69,7 @@ cell_there bytes k i = by (flag_bit bytes (form_of k) i) refl
     by false e = rw (flag_clear flags i e) refl
 
 picture_taken : (bytes room : List ℕ)
-    → (reader_answer bytes (length room)).number ≡ 0
+    → number_in (reader_answer bytes (length room)).outcome ≡ 0
     → TakenPicture bytes room (reader_answer bytes (length room)) (reader_room bytes room)
 unfolding taken_from
 picture_taken bytes room done =
@@ -93,7 +96,7 @@ picture_safe bytes room =
       given = (reader_given bytes (length room)).0;
       refused =
           λ h.
-          let left = refused_leaves bytes room h in
-          (ap (λ a. a.track) left.1, ap (λ a. a.side) left.1, left.0);
+          let (left, (refusal, answer)) = refused_leaves bytes room h in
+          (ap (λ a. a.track) answer, ap (λ a. a.side) answer, left);
       done = picture_taken bytes room;
     }

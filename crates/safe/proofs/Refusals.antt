@@ -15,8 +15,7 @@ use Rattle.command.specs.declared.Chip.{Chip}
 use Rattle.command.specs.declared.Chip.TheVariants.{Wd1793, Wd1797}
 use Rattle.command.specs.declared.Command.{Command}
 use Rattle.command.specs.declared.Command.TheVariants.{Restore, Seek, Step, StepIn, StepOut, ReadSector, WriteSector, ReadAddress, WriteTrack, ForceInterrupt}
-use Rattle.command.specs.declared.Decoded.{Decoded}
-use Rattle.command.specs.declared.Decoded.TheVariants as decoded
+use Rattle.std.specs.Prelude.{Option, Some, None}
 use Rattle.registers.specs.Registers.{guarded}
 use Rattle.wd.specs.declared.Machine.{Machine}
 use Rattle.wd.specs.Machines.{valid_of}
@@ -124,16 +123,16 @@ guards number b g = by (eqb number 1) refl (eqb number 2) refl (eqb number 0) re
     by false e false f false h = never (cc)
 
 -- 7: the decoding takes a byte exactly when it is an X
-pub data Takes (X : Type 0) : Decoded → Type 0 where
-  takes : (c : Command) → X → Takes X (decoded.Taken c)
-  refuses : (X → ⊥) → Takes X decoded.NoCommand
+pub data Takes (X : Type 0) : Option Command → Type 0 where
+  takes : (c : Command) → X → Takes X (Some c)
+  refuses : (X → ⊥) → Takes X None
 
 -- one test more in front
-or_else : {A B : Type 0} {d : Decoded} (c : Command) (t : Bool)
+or_else : {A B : Type 0} {d : Option Command} (c : Command) (t : Bool)
     → (t ≡ true → A)
     → (t ≡ false → A → ⊥)
     → Takes B d
-    → Takes (A ⊎ B) (cond t (decoded.Taken c) d)
+    → Takes (A ⊎ B) (cond t (Some c) d)
 or_else c true held out rest = takes c (inl (held refl))
 or_else c false held out (takes c' x) = takes c' (inr x)
 or_else c false held out (refuses none) = refuses (⊎_elim (out refl) none)
@@ -141,7 +140,7 @@ or_else c false held out (refuses none) = refuses (⊎_elim (out refl) none)
 at_last : {A : Type 0} (c : Command) (t : Bool)
     → (t ≡ true → A)
     → (t ≡ false → A → ⊥)
-    → Takes A (cond t (decoded.Taken c) decoded.NoCommand)
+    → Takes A (cond t (Some c) None)
 at_last c true held out = takes c (held refl)
 at_last c false held out = refuses (out refl)
 
@@ -185,7 +184,7 @@ with_u Wd1797 b =
     or_else ReadAddress (eqb b 0xC2 || eqb b 0xC6) one_of none_of
     (at_last WriteTrack (eqb b 0xF2 || eqb b 0xF6) one_of none_of)
 
-either : {A B : Type 0} {d other : Decoded} → Takes A d → Takes B other → Takes (A ⊎ B) (taken_or other d)
+either : {A B : Type 0} {d other : Option Command} → Takes A d → Takes B other → Takes (A ⊎ B) (taken_or other d)
 either (takes c x) rest = takes c (inl x)
 either (refuses none) (takes c x) = takes c (inr x)
 either (refuses none) (refuses none_else) = refuses (⊎_elim none none_else)

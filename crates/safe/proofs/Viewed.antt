@@ -4,19 +4,21 @@ use mathlib.Core.Bool.{Bool}
 use mathlib.Core.List.{List, []}
 use Prim.Native.Nat.{ℕ}
 use native.Mathlib.Nat.{zero-add}
+use Rattle.std.specs.Prelude.{Result, Ok, Err}
+use Rattle.refusals.specs.declared.Refusal.{Refusal}
 use Rattle.viewer.specs.declared.Place.{Place}
-use Rattle.viewer.specs.declared.Place.TheVariants.{Zero, One, Refused}
+use Rattle.viewer.specs.declared.Place.TheVariants.{Zero, One}
 use Rattle.viewer.specs.Views.{place_of, part_cells, part_start, number_of}
 use Rattle.safe.specs.Viewer.{SafeView}
 use Rattle.safe.proofs.Viewer.{view_given}
 
 -- what a refusal hands back
-refused_part : (p : Place) (s0 s1 : List ℕ) (p0 p1 : ℕ × ℕ) → (number_of p ≡ 0 → ⊥)
+refused_part : (p : Result Place Refusal) (s0 s1 : List ℕ) (p0 p1 : ℕ × ℕ) → (number_of p ≡ 0 → ⊥)
     → (part_cells p s0 s1 ≡ []) × (part_start p p0 p1 ≡ p0)
 unfolding part_cells part_start
-refused_part (Zero from to) s0 s1 p0 p1 h = absurd (h refl)
-refused_part (One from to) s0 s1 p0 p1 h = absurd (h refl)
-refused_part (Refused number) s0 s1 p0 p1 h = (refl, ap (λ (at : ℕ). (p0.0, at)) (zero-add p0.1))
+refused_part (Ok (Zero span)) s0 s1 p0 p1 h = absurd (h refl)
+refused_part (Ok (One span)) s0 s1 p0 p1 h = absurd (h refl)
+refused_part (Err refusal) s0 s1 p0 p1 h = (refl, ap (λ (at : ℕ). (p0.0, at)) (zero-add p0.1))
 
 -- for every input
 pub view_safe : (s0 s1 : List ℕ) (p0 p1 : ℕ × ℕ) (mfm : Bool) (track sector : ℕ)

@@ -8,11 +8,16 @@ use native.Mathlib.Omega.{arith}
 use lib.Dec.{leb}
 use lib.ListN.{length}
 use borrow.Author.Tests.{leb-false}
+use Rattle.std.specs.Prelude.{Result, Ok, Err}
 use Rattle.common.proofs.Cases.{never, both}
+use Rattle.refusals.specs.declared.Refusal.{Refusal}
+use Rattle.refusals.specs.declared.Refusal.TheVariants.{Length, Cell, Sector}
+use Rattle.refusals.specs.Numbers as numbers
 use Rattle.scan.specs.Rows.{length_within}
 use Rattle.viewer.specs.declared.Place.{Place}
-use Rattle.viewer.specs.declared.Place.TheVariants.{Zero, One, Refused}
+use Rattle.viewer.specs.declared.Place.TheVariants.{Zero, One}
 use Rattle.viewer.specs.Views.{cells_within, place_of, number_of}
+use Rattle.viewer.specs.Sectors.{span_of}
 use Rattle.viewer.proofs.Views.{Open, Case, wrong_length, wrong_cell, in_zero, in_one, nowhere, which, on_zero, on_one, on_none, lengths_refused, cells_refused, cells_within_lem}
 use Rattle.safe.specs.Demand1.{Given}
 use Rattle.safe.specs.Viewer.{WrongLength, HasAbove, AnyAbove, NoSuchSector, AtViewer, viewer_1, viewer_4, viewer_11}
@@ -66,29 +71,30 @@ module _ (s0 s1 : List ℕ) (mfm : Bool) (track sector : ℕ) where
   found may some = nothing Row (viewer_rows (λ j. ⊥) (in_lengths may.0) (in_cells may.1) some)
 
   pub view_given : Given Row (number_of (place_of s0 s1 mfm track sector))
+  unfolding numbers.number_of
   view_given = by (which s0 s1 mfm track sector)
     where
-      told : (p : Place) → place_of s0 s1 mfm track sector ≡ p → Given Row (number_of p)
+      told : (p : Result Place Refusal) → place_of s0 s1 mfm track sector ≡ p → Given Row (number_of p)
           → Given Row (number_of (place_of s0 s1 mfm track sector))
-      told p e = subst (λ (p : Place). Given Row (number_of p)) (sym e)
+      told p e = subst (λ (p : Result Place Refusal). Given Row (number_of p)) (sym e)
 
       by : Case s0 s1 mfm track sector → Given Row (number_of (place_of s0 s1 mfm track sector))
       by (wrong_length l) =
-          told (Refused 1) (lengths_refused s0 s1 mfm track sector l)
+          told (Err Length) (lengths_refused s0 s1 mfm track sector l)
           (lowest Row 1 (omega arith) (viewer_1 (one_fails _ _ (out_of_range _) (out_of_range _) l))
           (viewer_rows (λ j. 1 ≤ j) (λ c. omega arith) (λ c. omega arith) (λ c. omega arith)))
       by (wrong_cell l k) =
-          told (Refused 4) (cells_refused s0 s1 mfm track sector l k)
+          told (Err Cell) (cells_refused s0 s1 mfm track sector l k)
           (lowest Row 4 (omega arith) (viewer_4 (one_fails _ _ (some_above s0) (some_above s1) k))
           (viewer_rows (λ j. 4 ≤ j) (λ c. absurd (in_lengths l c)) (λ c. omega arith) (λ c. omega arith)))
       by (in_zero may from to a f) =
-          told (Zero from to) (on_zero s0 s1 mfm track sector may from to a f)
+          told (Ok (Zero (span_of from to))) (on_zero s0 s1 mfm track sector may from to a f)
           (found may (λ none. none (inl (a, from, to, f.is))))
       by (in_one may none from to a f) =
-          told (One from to) (on_one s0 s1 mfm track sector may none from to a f)
+          told (Ok (One (span_of from to))) (on_one s0 s1 mfm track sector may none from to a f)
           (found may (λ none. none (inr (a, from, to, f.is))))
       by (nowhere may none other) =
-          told (Refused 11) (on_none s0 s1 mfm track sector may none other)
+          told (Err Sector) (on_none s0 s1 mfm track sector may none other)
           (lowest Row 11 (omega arith)
           (viewer_11 (⊎_elim (λ (a, from, to, s). none a from to s) (λ (a, from, to, s). other a from to s)))
           (viewer_rows (λ j. 11 ≤ j) (λ c. absurd (in_lengths may.0 c)) (λ c. absurd (in_cells may.1 c))

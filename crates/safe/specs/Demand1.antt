@@ -6,15 +6,15 @@ use Rattle.command.specs.declared.Chip.{Chip}
 use Rattle.command.specs.declared.Chip.TheVariants.{Wd1793, Wd1797}
 use Rattle.registers.specs.declared.Lines.{Lines}
 use Rattle.wd.specs.declared.Machine.{Machine}
-use Rattle.wd.specs.declared.Started.{Started}
-use Rattle.wd.specs.declared.Loaded.{Loaded}
+use Rattle.wd.specs.declared.Called.{Called}
 use Rattle.wd.specs.declared.Read.{Read}
 use Rattle.wd.specs.declared.Passed.{Passed}
 use Rattle.wd.specs.Machines.{power_on}
 use Rattle.wd.specs.Reads.{read_register}
 use Rattle.wd.specs.Rows.{under, Run}
-use Rattle.reachable.specs.ByteTimes.{machine_after, row_after, number_after, signals, Makes, Counts}
+use Rattle.reachable.specs.ByteTimes.{machine_after, row_after, outcome_after, signals, Makes, Counts}
 use Rattle.reachable.specs.Limits.{EachCount, Within}
+use Rattle.refusals.specs.Numbers.{number_in, done}
 
 -- ---- the conditions
 
@@ -87,7 +87,7 @@ NoCommand chip b = IsCommand chip b → ⊥
 -- A run comes to its byte time n, counted from 0: those before it are done, and none of them ends with DRQ or INTRQ on.
 pub record ComesTo (m : Machine) (l : Lines) (limit : ℕ) (row : List ℕ) (n : ℕ) : Type 0 where
   pub below : n < limit
-  pub done : (k : ℕ) → k < n → number_after k m l row ≡ 0
+  pub done : (k : ℕ) → k < n → outcome_after k m l row ≡ done
   pub quiet : (k : ℕ) → k < n → signals (machine_after (suc k) m l row) ≡ false
 
 -- ---- the table's rows, call by call: number k has a row where its condition holds
@@ -132,24 +132,24 @@ Given Row number = InTurn (λ t. t) Row number
 -- ---- each call: its number, and what it hands back where that is not 0
 
 -- "power-on FM machine of 2,048", of the chip that was named
-pub record SafePowerOn (size : ℕ) (chip : Chip) (r : Started) : Type 0 where
-  pub given : Given (AtPowerOn size) r.number
-  pub refused : (r.number ≡ 0 → ⊥) → r.machine ≡ (power_on 2048 false chip).machine
+pub record SafePowerOn (size : ℕ) (chip : Chip) (r : Called) : Type 0 where
+  pub given : Given (AtPowerOn size) (number_in r.outcome)
+  pub refused : (r.outcome ≡ done → ⊥) → r.machine ≡ (power_on 2048 false chip).machine
 
 -- "as given"
-pub record SafeLoad (m : Machine) (l : Lines) (number b : ℕ) (r : Loaded) : Type 0 where
-  pub given : Given (AtLoad m l number b) r.number
-  pub refused : (r.number ≡ 0 → ⊥) → r.machine ≡ m
+pub record SafeLoad (m : Machine) (l : Lines) (number b : ℕ) (r : Called) : Type 0 where
+  pub given : Given (AtLoad m l number b) (number_in r.outcome)
+  pub refused : (r.outcome ≡ done → ⊥) → r.machine ≡ m
 
 -- "as given, byte 0"
 pub record SafeRead (m : Machine) (number : ℕ) (r : Read) : Type 0 where
-  pub given : Given (AtRead m number) r.number
-  pub refused : (r.number ≡ 0 → ⊥) → (r.machine ≡ m) × (r.byte ≡ 0)
+  pub given : Given (AtRead m number) (number_in r.outcome)
+  pub refused : (r.outcome ≡ done → ⊥) → (r.machine ≡ m) × (r.byte ≡ 0)
 
 -- "as given, track untouched": "changes no cell of a lent track in that byte time"
 pub record SafeByteTime (m : Machine) (row : List ℕ) (r : Passed) (row' : List ℕ) : Type 0 where
-  pub given : Given (AtByteTime m row) r.number
-  pub refused : (r.number ≡ 0 → ⊥) → (r.machine ≡ m) × (row' ≡ row)
+  pub given : Given (AtByteTime m row) (number_in r.outcome)
+  pub refused : (r.outcome ≡ done → ⊥) → (r.machine ≡ m) × (row' ≡ row)
 
 -- "A run stopped by 4 hands back the machine before the refused byte time, with the count passed until then; earlier writes
 -- stay.": n byte times have passed, and the next one's cell is above 511; "It counts step pulses in and out too."
@@ -169,9 +169,9 @@ pub record RefusedRun (m : Machine) (row : List ℕ) (r : Run) : Type 0 where
   pub outward : r.ran.tally.outward ≡ 0
 
 pub record SafeRun (m : Machine) (l : Lines) (limit : ℕ) (row : List ℕ) (r : Run) : Type 0 where
-  pub given : Given (AtRun m l limit row) r.ran.number
-  pub refused : (r.ran.number ≡ 2) ⊎ (r.ran.number ≡ 3) → RefusedRun m row r
+  pub given : Given (AtRun m l limit row) (number_in r.ran.outcome)
+  pub refused : (number_in r.ran.outcome ≡ 2) ⊎ (number_in r.ran.outcome ≡ 3) → RefusedRun m row r
   -- "A run call makes byte times .. It reports how many passed. It counts step pulses in and out too."
-  pub done : r.ran.number ≡ 0
+  pub done : r.ran.outcome ≡ done
       → Makes m l limit row r.ran.tally.passed r × Counts m l row r.ran.tally.passed r.ran.tally
-  pub stopped : r.ran.number ≡ 4 → StoppedAt m l limit row r.ran.tally.passed r
+  pub stopped : number_in r.ran.outcome ≡ 4 → StoppedAt m l limit row r.ran.tally.passed r

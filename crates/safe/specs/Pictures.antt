@@ -2,6 +2,7 @@
 -- Assumes nothing.
 use Rattle.std.specs.Prelude.{◌≡◌, Bool, true, false, cond, List, [], ◌∷◌, ◌⊎◌, ℕ, ◌+◌, ◌-◌, ◌/◌, ◌%◌, ◌≤◌, ◌<◌, length, get_or}
 use Rattle.common.specs.Bits.{bit_of}
+use Rattle.refusals.specs.Numbers.{number_in}
 use Rattle.picture.specs.declared.Answer.{Answer}
 use Rattle.picture.specs.Kinds.{shape_of}
 use Rattle.safe.specs.Demand1.{InTurn}
@@ -115,6 +116,6 @@ pub record TakenPicture (bytes room : List ℕ) (r : Answer) (room' : List ℕ) 
 
 -- "A refused picture gives track and side 0", "nothing written"
 pub record SafePicture (bytes room : List ℕ) (r : Answer) (room' : List ℕ) : Type 0 where
-  pub given : InTurn reader_order (AtReader bytes (length room)) r.number
-  pub refused : (r.number ≡ 0 → ⊥) → (r.track ≡ 0) × (r.side ≡ 0) × (room' ≡ room)
-  pub done : r.number ≡ 0 → TakenPicture bytes room r room'
+  pub given : InTurn reader_order (AtReader bytes (length room)) (number_in r.outcome)
+  pub refused : (number_in r.outcome ≡ 0 → ⊥) → (r.track ≡ 0) × (r.side ≡ 0) × (room' ≡ room)
+  pub done : number_in r.outcome ≡ 0 → TakenPicture bytes room r room'

@@ -1,11 +1,11 @@
 // Fields on a stream of cells: marks, IDs and data marks, one cell a step, in both densities.
 #![tactic(auto)]
 
-ghost use Rattle.std.specs.Prelude.{◌≡◌, cond};
+ghost use Rattle.std.specs.Prelude.{◌≡◌, ◌<◌};
 ghost use Rattle.scan.specs.Marks.{lead_of, carries_mark, sync_run, mark_step, mark_crc};
 ghost use Rattle.scan.specs.Rows.{length_within};
-ghost use Rattle.scan.specs.DataMarks.{density_has, met_in, data_mark_of, data_mark_in, data_mark_step, mark_byte, is_deleted, window_of};
-ghost use Rattle.scan.specs.Ids.{id_begun, run_in, id_byte_step, id_cell_step, id_mark_step, id_step};
+ghost use Rattle.scan.specs.DataMarks.{data_mark_of, data_mark_in, data_mark_step, mark_byte, is_deleted, window_of};
+ghost use Rattle.scan.specs.Ids.{last_id_cell, id_begun, pushed_of, whole_of, run_in, id_byte_step, id_cell_step, id_mark_step, id_step};
 
 // The range of a row's length. The rows of `bench` and `list` follow from it.
 pub const SHORTEST_ROW: usize = 2048;
@@ -25,7 +25,8 @@ pub const LAST_ID_CELL: u8 = ID_CELLS - 1;
 // The longer of the two windows for a data mark, MFM's.
 pub const LONGEST_WINDOW: u8 = 43;
 
-// What a cell is after those that passed.
+// What a cell is after those that passed. This enum, `Sought`, `Scan` and `Heard` are no Option and no Result: each of their cases
+// says what happened, and none is an absence or an error.
 #[derive(Clone, Copy)]
 pub enum Passed {
     // No mark ends here; so many flagged A1 cells, at most three, stand last in a row.
@@ -93,7 +94,8 @@ pub fn length_within(length: usize) -> bool
     (SHORTEST_ROW <= length) & (length <= LONGEST_ROW)
 }
 
-// How many flagged A1 cells stand before a mark's byte.
+// How many flagged A1 cells stand before a mark's byte. A number of each density is a function of its own, here and elsewhere: one
+// over both numbers would only be another word for `if`.
 #[tactic(auto, unfolding(crate::specs::Marks::lead_of))]
 pub fn lead(mfm: bool) -> u8
     ensures { result ≡ lead_of mfm }
@@ -132,7 +134,7 @@ pub fn pass(mfm: bool, cell: u16, run: u8) -> Passed
 }
 
 // The register after the cells of a mark.
-#[tactic(auto, unfolding(crate::specs::Marks::mark_crc, crate::specs::Marks::mark_bytes, crc::specs::Crc::crc_over))]
+#[tactic(auto, using(crate::proofs::Preset::after_syncs), unfolding(crate::specs::Marks::mark_crc, crate::specs::Marks::mark_bytes, crc::specs::Crc::crc_over))]
 pub fn mark_crc(mfm: bool, byte: u8) -> u16
     ensures { result ≡ mark_crc mfm byte }
 {
@@ -143,37 +145,17 @@ pub fn mark_crc(mfm: bool, byte: u8) -> u16
     }
 }
 
-// Whether a data mark is one of the density: F9 and FA are data marks in FM only.
-#[tactic(auto, unfolding(crate::specs::DataMarks::density_has))]
-fn density_has(mfm: bool, mark: DataMark) -> bool
-    ensures { result ≡ density_has mfm mark }
-{
-    match mark {
-        DataMark::Fb | DataMark::F8 => true,
-        DataMark::F9 => !mfm,
-        DataMark::Fa => !mfm,
-    }
-}
-
-fn met_in(mfm: bool, mark: DataMark) -> Sought
-    ensures { result ≡ met_in mfm mark }
-{
-    if density_has(mfm, mark) {
-        Sought::Met(mark)
-    } else {
-        Sought::On(0)
-    }
-}
-
-#[tactic(auto, unfolding(crate::specs::DataMarks::data_mark_of))]
+// What a mark is by its byte to whoever waits for a data mark: F9 and FA are data marks in FM only. (So it is no TryFrom: it asks
+// the density too.)
+#[tactic(auto, unfolding(crate::specs::DataMarks::data_mark_of, crate::specs::DataMarks::density_has))]
 fn data_mark(mfm: bool, byte: u8) -> Sought
     ensures { result ≡ data_mark_of mfm byte }
 {
     match byte {
-        0xFB => met_in(mfm, DataMark::Fb),
-        0xF8 => met_in(mfm, DataMark::F8),
-        0xF9 => met_in(mfm, DataMark::F9),
-        0xFA => met_in(mfm, DataMark::Fa),
+        0xFB => Sought::Met(DataMark::Fb),
+        0xF8 => Sought::Met(DataMark::F8),
+        0xF9 if !mfm => Sought::Met(DataMark::F9),
+        0xFA if !mfm => Sought::Met(DataMark::Fa),
         _ => Sought::On(0),
     }
 }
@@ -196,27 +178,25 @@ pub fn seek_data(mfm: bool, cell: u16, run: u8) -> Sought
     data_mark_in(mfm, pass(mfm, cell, run))
 }
 
-#[tactic(auto, unfolding(crate::specs::DataMarks::mark_byte))]
-pub fn mark_byte(mark: DataMark) -> u8
-    ensures { result ≡ mark_byte mark }
-{
-    match mark {
-        DataMark::Fb => 0xFB,
-        DataMark::F8 => 0xF8,
-        DataMark::F9 => 0xF9,
-        DataMark::Fa => 0xFA,
+impl DataMark {
+    // Not the variants' own numbers: the edits of must-fail/ and machines/ give two of them one byte.
+    #[tactic(auto, unfolding(crate::specs::DataMarks::mark_byte))]
+    pub fn byte(self) -> u8
+        ensures { result ≡ mark_byte self }
+    {
+        match self {
+            DataMark::Fb => 0xFB,
+            DataMark::F8 => 0xF8,
+            DataMark::F9 => 0xF9,
+            DataMark::Fa => 0xFA,
+        }
     }
-}
 
-#[tactic(auto, unfolding(crate::specs::DataMarks::is_deleted))]
-pub fn is_deleted(mark: DataMark) -> bool
-    ensures { result ≡ is_deleted mark }
-{
-    match mark {
-        DataMark::Fb => false,
-        DataMark::F8 => true,
-        DataMark::F9 => true,
-        DataMark::Fa => false,
+    #[tactic(auto, unfolding(crate::specs::DataMarks::is_deleted))]
+    pub fn is_deleted(self) -> bool
+        ensures { result ≡ is_deleted self }
+    {
+        matches!(self, DataMark::F8 | DataMark::F9)
     }
 }
 
@@ -246,36 +226,60 @@ fn begin(mfm: bool, byte: u8) -> Scan
     }
 }
 
-fn pick(on: bool, a: u8, b: u8) -> u8
-    ensures { result ≡ cond on a b }
-{
-    if on { a } else { b }
+impl Part {
+    // With one cell more.
+    #[tactic(auto, unfolding(crate::specs::Ids::pushed_of))]
+    fn with(self, byte: u8) -> Part
+        requires { self.passed < last_id_cell }
+        ensures { result ≡ pushed_of self byte }
+    {
+        let part = Part {
+            passed: self.passed + 1,
+            crc: crc::step(self.crc, byte),
+            ..self
+        };
+        match self.passed {
+            0 => Part {
+                track: byte,
+                ..part
+            },
+            1 => Part { side: byte, ..part },
+            2 => Part {
+                sector: byte,
+                ..part
+            },
+            3 => Part {
+                length: byte,
+                ..part
+            },
+            _ => part,
+        }
+    }
+
+    // The ID whose last cell this is.
+    #[tactic(auto, unfolding(crate::specs::Ids::whole_of))]
+    fn whole(self, byte: u8) -> Id
+        ensures { result ≡ whole_of self byte }
+    {
+        Id {
+            track: self.track,
+            side: self.side,
+            sector: self.sector,
+            length: self.length,
+            good: crc::step(self.crc, byte) == 0,
+        }
+    }
 }
 
 // An unflagged cell of an ID.
-#[tactic(auto, unfolding(crate::specs::Ids::id_byte_step, crate::specs::Ids::pushed_of, crate::specs::Ids::whole_of))]
+#[tactic(auto, unfolding(crate::specs::Ids::id_byte_step))]
 fn add(part: Part, byte: u8) -> Heard
     ensures { result ≡ id_byte_step part byte }
 {
-    let at = part.passed;
-    let crc = crc::step(part.crc, byte);
-    if at < LAST_ID_CELL {
-        Heard::On(Scan::Field(Part {
-            passed: at + 1,
-            crc: crc,
-            track: pick(at == 0, byte, part.track),
-            side: pick(at == 1, byte, part.side),
-            sector: pick(at == 2, byte, part.sector),
-            length: pick(at == 3, byte, part.length),
-        }))
+    if part.passed < LAST_ID_CELL {
+        Heard::On(Scan::Field(part.with(byte)))
     } else {
-        Heard::Whole(Id {
-            track: part.track,
-            side: part.side,
-            sector: part.sector,
-            length: part.length,
-            good: crc == 0,
-        })
+        Heard::Whole(part.whole(byte))
     }
 }
 

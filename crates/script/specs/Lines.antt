@@ -1,40 +1,49 @@
 -- Lines: a letter, and numbers. Assumes nothing.
-use Rattle.std.specs.Prelude.{Bool, true, false, cond, not, ◌&&◌, ℕ, ◌+◌, leb, eqb, set, replicate}
-use Rattle.script.specs.Words.{no_word, word_with, is_letter, is_number}
+use Rattle.std.specs.Prelude.{Bool, true, false, cond, not, ◌&&◌, ℕ, leb, eqb, [], ◌∷◌, ◌++◌, Option, Some, None, is_none, Result, Ok, Err}
+use Rattle.arrayvec.specs.ArrayVec.{array_vec_len}
+use Rattle.script.specs.Words.{no_word, word_with, letter_of, number_of}
 use Rattle.script.specs.declared.words.Word.{Word}
+use Rattle.script.specs.declared.lines.BadLine.{BadLine}
 use Rattle.script.specs.declared.lines.Line.{Line}
 use Rattle.script.specs.declared.lines.Reader.{Reader}
 
 unfoldable pub no_line : Line
-no_line = record { letter = 0; count = 0; numbers = replicate 65 0; bad = false }
+no_line = record { letter = None; numbers = record { items = [] } }
 
-unfoldable pub spoilt_line : Line → Line
-spoilt_line l = record { letter = l.letter; count = l.count; numbers = l.numbers; bad = true }
+-- an error of the script
+abbrev pub bad_line : BadLine
+bad_line = record {}
+
+abbrev pub line_with_letter : Line → Option ℕ → Result Line BadLine
+line_with_letter l (Some letter) = Ok (record { letter = Some letter; numbers = l.numbers })
+line_with_letter l None = Err bad_line
 
 -- "A line is a capital letter"
-unfoldable pub lettered_line : Line → Word → Line
-lettered_line l w =
-    cond (is_letter w)
-    (record { letter = w.last; count = l.count; numbers = l.numbers; bad = l.bad })
-    (spoilt_line l)
+unfoldable pub lettered_line : Line → Word → Result Line BadLine
+lettered_line l w = line_with_letter l (letter_of w)
+
+abbrev pub line_with_number : Line → Option ℕ → Result Line BadLine
+line_with_number l (Some number) = Ok (record { letter = l.letter; numbers = record { items = l.numbers.items ++ number ∷ [] } })
+line_with_number l None = Err bad_line
 
 -- "and then numbers", of which no line takes more than a place and 64 cells
-unfoldable pub numbered_line : Line → Word → Line
-numbered_line l w =
-    cond (leb 65 l.count) (spoilt_line l)
-    (cond (is_number w)
-    (record { letter = l.letter; count = l.count + 1; numbers = set l.numbers l.count w.value; bad = l.bad })
-    (spoilt_line l))
+unfoldable pub numbered_line : Line → Word → Result Line BadLine
+numbered_line l w = cond (leb 65 (array_vec_len l.numbers)) (Err bad_line) (line_with_number l (number_of w))
 
 -- "separated by one or more spaces": between two spaces there is no word
-unfoldable pub line_with : Line → Word → Line
-line_with l w = cond (eqb w.size 0) l (cond (eqb l.letter 0) (lettered_line l w) (numbered_line l w))
+unfoldable pub line_with : Line → Word → Result Line BadLine
+line_with l w = cond (eqb w.size 0) (Ok l) (cond (is_none l.letter) (lettered_line l w) (numbered_line l w))
+
+-- a bad line stays bad
+unfoldable pub line_and : Result Line BadLine → Word → Result Line BadLine
+line_and (Ok l) w = line_with l w
+line_and (Err bad) w = Err bad
 
 unfoldable pub line_start : Reader
-line_start = record { line = no_line; word = no_word; comment = false; cr = false }
+line_start = record { line = Ok no_line; word = no_word; comment = false; cr = false }
 
 unfoldable pub word_end : Reader → Bool → Reader
-word_end r comment = record { line = line_with r.line r.word; word = no_word; comment = comment; cr = false }
+word_end r comment = record { line = line_and r.line r.word; word = no_word; comment = comment; cr = false }
 
 -- "A carriage return just before a newline belongs to the line's end": what comes next decides
 unfoldable pub cr_held : Reader → Reader
@@ -42,7 +51,7 @@ cr_held r = record { line = r.line; word = r.word; comment = r.comment; cr = tru
 
 -- "anywhere else outside a comment it is an error": another byte came
 unfoldable pub cr_stray : Reader → Reader
-cr_stray r = record { line = spoilt_line r.line; word = r.word; comment = r.comment; cr = r.cr }
+cr_stray r = record { line = Err bad_line; word = r.word; comment = r.comment; cr = r.cr }
 
 -- any other byte is a word's
 unfoldable pub word_grown : Reader → ℕ → Reader
@@ -59,5 +68,5 @@ fed_reader r byte =
     (word_grown r byte)))))
 
 -- the line whose bytes these were, at its newline or at the end of the input, before which no carriage return may stand
-unfoldable pub ended_line : Reader → Bool → Line
-ended_line r newline = cond (r.cr && not newline) (spoilt_line (line_with r.line r.word)) (line_with r.line r.word)
+unfoldable pub ended_line : Reader → Bool → Result Line BadLine
+ended_line r newline = cond (r.cr && not newline) (Err bad_line) (line_and r.line r.word)

@@ -1,11 +1,10 @@
 // The lines of a bench script: read byte by byte, and what each asks for.
 #![tactic(auto)]
 
-mod glyphs;
 mod lines;
 mod requests;
 mod words;
 
-pub use lines::{Line, Reader};
+pub use lines::{BadLine, Line, Reader};
 pub use requests::{Call, Request, Task, request_of};
 pub use words::Word;

@@ -1,23 +1,26 @@
 // A line of a script: its letter and its numbers.
 ghost use Rattle.std.specs.Prelude.{◌≡◌};
-ghost use Rattle.script.specs.Lines.{no_line, spoilt_line, lettered_line, numbered_line, line_with, line_start, word_end, cr_held, cr_stray, word_grown, fed_reader, ended_line};
+ghost use Rattle.script.specs.Lines.{no_line, lettered_line, numbered_line, line_with, line_start, line_and, word_end, cr_held, cr_stray, word_grown, fed_reader, ended_line};
 
 use crate::words::Word;
+use arrayvec::ArrayVec;
 
-// A line so far. Its letter is 0 until it has one; its numbers are a place and 64 cells at most.
-#[derive(Clone, Copy)]
+// A line so far: its letter, and after it a place and 64 cells at most.
+#[derive(Drop)]
 pub struct Line {
-    pub letter: u8,
-    pub count: usize,
-    pub numbers: [u16; 65],
-    // A word of it is neither its letter nor a number that it has room for.
-    pub bad: bool,
+    pub letter: Option<u8>,
+    pub numbers: ArrayVec<u16, 65>,
 }
 
+// A line that is an error of the script.
+#[derive(Clone, Copy, Debug)]
+pub struct BadLine;
+
 // A line while its bytes come in. A comment of any length is passed over, so no line is ever held whole.
-#[derive(Clone, Copy)]
+#[derive(Drop)]
 pub struct Reader {
-    pub line: Line,
+    // It is bad from a word on that is neither its letter nor a number that it has room for.
+    pub line: Result<Line, BadLine>,
     pub word: Word,
     pub comment: bool,
     // There is a carriage return outside a comment: only a newline may follow.
@@ -30,66 +33,54 @@ impl Line {
         ensures { result ≡ no_line }
     {
         Line {
-            letter: 0,
-            count: 0,
-            numbers: [0; 65],
-            bad: false,
+            letter: None,
+            numbers: ArrayVec::new(),
         }
-    }
-
-    #[tactic(auto, unfolding(crate::specs::Lines::spoilt_line))]
-    fn spoil(self) -> Line
-        ensures { result ≡ spoilt_line self }
-    {
-        let mut line = self;
-        line.bad = true;
-        line
     }
 
     // The first word is the letter.
     #[tactic(auto, unfolding(crate::specs::Lines::lettered_line))]
-    fn with_letter(self, word: Word) -> Line
+    fn with_letter(self, word: Word) -> Result<Line, BadLine>
         ensures { result ≡ lettered_line self word }
     {
-        if word.is_letter() {
-            let mut line = self;
-            line.letter = word.last;
-            return line;
-        }
-        self.spoil()
+        let letter = word.letter().ok_or(BadLine)?;
+        Ok(Line {
+            letter: Some(letter),
+            ..self
+        })
     }
 
     // Each later word is a number.
     #[tactic(auto, unfolding(crate::specs::Lines::numbered_line))]
-    fn with_number(self, word: Word) -> Line
+    fn with_number(mut self, word: Word) -> Result<Line, BadLine>
         ensures { result ≡ numbered_line self word }
     {
-        let count = self.count;
-        if 65 <= count {
-            return self.spoil();
-        }
-        if word.is_number() {
-            let mut line = self;
-            line.numbers[count] = word.value;
-            line.count = count + 1;
-            return line;
-        }
-        self.spoil()
+        let number = word.number().ok_or(BadLine)?;
+        self.numbers.try_push(number).map_err(|_| BadLine)?;
+        Ok(self)
     }
 
     // The line with the word that ends here; between two spaces there is none.
     #[tactic(auto, unfolding(crate::specs::Lines::line_with))]
-    fn with(self, word: Word) -> Line
+    fn with(self, word: Word) -> Result<Line, BadLine>
         ensures { result ≡ line_with self word }
     {
         if word.size == 0 {
-            return self;
+            Ok(self)
+        } else if self.letter.is_none() {
+            self.with_letter(word)
+        } else {
+            self.with_number(word)
         }
-        if self.letter == 0 {
-            return self.with_letter(word);
-        }
-        self.with_number(word)
     }
+}
+
+// A line with the word that ends here, where it is not bad already.
+#[tactic(auto, unfolding(crate::specs::Lines::line_and))]
+fn ended(line: Result<Line, BadLine>, word: Word) -> Result<Line, BadLine>
+    ensures { result ≡ line_and line word }
+{
+    line?.with(word)
 }
 
 impl Reader {
@@ -99,7 +90,7 @@ impl Reader {
         ensures { result ≡ line_start }
     {
         Reader {
-            line: Line::none(),
+            line: Ok(Line::none()),
             word: Word::none(),
             comment: false,
             cr: false,
@@ -111,10 +102,8 @@ impl Reader {
     fn end_word(self, comment: bool) -> Reader
         ensures { result ≡ word_end self comment }
     {
-        let line = self.line;
-        let word = self.word;
         Reader {
-            line: line.with(word),
+            line: ended(self.line, self.word),
             word: Word::none(),
             comment,
             cr: false,
@@ -126,19 +115,18 @@ impl Reader {
     fn hold_cr(self) -> Reader
         ensures { result ≡ cr_held self }
     {
-        let mut reader = self;
-        reader.cr = true;
-        reader
+        Reader { cr: true, ..self }
     }
 
     // After a carriage return and a byte that is no newline: the line is bad, whatever follows.
-    #[tactic(auto, unfolding(crate::specs::Lines::cr_stray, crate::specs::Lines::spoilt_line))]
+    #[tactic(auto, unfolding(crate::specs::Lines::cr_stray))]
     fn stray_cr(self) -> Reader
         ensures { result ≡ cr_stray self }
     {
-        let mut reader = self;
-        reader.line.bad = true;
-        reader
+        Reader {
+            line: Err(BadLine),
+            ..self
+        }
     }
 
     // After one byte more of a word.
@@ -146,13 +134,11 @@ impl Reader {
     fn grow_word(self, byte: u8) -> Reader
         ensures { result ≡ word_grown self byte }
     {
-        let word = self.word;
-        let line = self.line;
         Reader {
-            line,
-            word: word.with(byte),
+            word: self.word.with(byte),
             comment: false,
             cr: false,
+            ..self
         }
     }
 
@@ -167,29 +153,22 @@ impl Reader {
         if self.cr {
             return self.stray_cr();
         }
-        if byte == b' ' {
-            return self.end_word(false);
+        match byte {
+            b' ' => self.end_word(false),
+            b'#' => self.end_word(true),
+            b'\r' => self.hold_cr(),
+            _ => self.grow_word(byte),
         }
-        if byte == b'#' {
-            return self.end_word(true);
-        }
-        if byte == b'\r' {
-            return self.hold_cr();
-        }
-        self.grow_word(byte)
     }
 
     // The whole line, at its newline or else at the end of the input, before which no carriage return may stand.
     #[tactic(auto, unfolding(crate::specs::Lines::ended_line))]
-    pub fn ended(self, newline: bool) -> Line
+    pub fn ended(self, newline: bool) -> Result<Line, BadLine>
         ensures { result ≡ ended_line self newline }
     {
-        let line = self.line;
-        let word = self.word;
-        let whole = line.with(word);
         if self.cr & !newline {
-            return whole.spoil();
+            return Err(BadLine);
         }
-        whole
+        ended(self.line, self.word)
     }
 }

@@ -1,8 +1,8 @@
 // What a line asks for: its letter, as many numbers as the letter takes, each within its bounds.
 ghost use Rattle.std.specs.Prelude.{◌≡◌};
-ghost use Rattle.script.specs.Requests.{power_on_request, lines_request, load_request, read_request, view_request, cells_request, of_none, of_one, of_two, of_three, request_of};
+ghost use Rattle.script.specs.Requests.{byte_of, flag_of, power_on_request, lines_request, load_request, read_request, view_request, of_none, of_one, of_two, of_three, asked_of, request_of};
 
-use crate::lines::Line;
+use crate::lines::{BadLine, Line};
 
 // What is asked of the controller that is there.
 #[derive(Clone, Copy)]
@@ -28,8 +28,6 @@ pub enum Task {
 
 #[derive(Clone, Copy)]
 pub enum Request {
-    // A line with nothing in it but a comment.
-    Nothing,
     PowerOn {
         mfm: bool,
         length: u16,
@@ -46,169 +44,156 @@ pub enum Request {
         track: u8,
         sector: u8,
     },
-    Bad,
+}
+
+#[tactic(auto, unfolding(crate::specs::Requests::byte_of))]
+fn byte(number: u16) -> Result<u8, BadLine>
+    ensures { result ≡ byte_of number }
+{
+    u8::try_from(number).map_err(|_| BadLine)
+}
+
+#[tactic(auto, unfolding(crate::specs::Requests::flag_of))]
+fn flag(number: u16) -> Result<bool, BadLine>
+    ensures { result ≡ flag_of number }
+{
+    match number {
+        0 => Ok(false),
+        1 => Ok(true),
+        _ => Err(BadLine),
+    }
 }
 
 // Chip 0 is the WD1793, chip 1 the WD1797.
-#[tactic(auto, unfolding(crate::specs::Requests::power_on_request))]
-fn power_on(density: u16, length: u16, chip: u16) -> Request
+#[tactic(auto, unfolding(crate::specs::Requests::power_on_request, crate::specs::Requests::flag_of))]
+fn power_on(density: u16, length: u16, chip: u16) -> Result<Request, BadLine>
     ensures { result ≡ power_on_request density length chip }
 {
-    if 1 < density {
-        return Request::Bad;
-    }
-    if 1 < chip {
-        return Request::Bad;
-    }
-    Request::PowerOn {
-        mfm: density == 1,
+    Ok(Request::PowerOn {
+        mfm: flag(density)?,
         length,
-        wd1797: chip == 1,
-    }
+        wd1797: flag(chip)?,
+    })
 }
 
 #[tactic(auto, unfolding(crate::specs::Requests::lines_request))]
-fn set_lines(bits: u16) -> Request
+fn set_lines(bits: u16) -> Result<Request, BadLine>
     ensures { result ≡ lines_request bits }
 {
     if 15 < bits {
-        return Request::Bad;
+        return Err(BadLine);
     }
-    Request::SetLines { bits: bits as u8 }
+    Ok(Request::SetLines { bits: bits as u8 })
 }
 
-#[tactic(auto, unfolding(crate::specs::Requests::load_request))]
-fn load(register: u16, byte: u16) -> Request
-    ensures { result ≡ load_request register byte }
+#[tactic(auto, unfolding(crate::specs::Requests::load_request, crate::specs::Requests::byte_of))]
+fn load(register: u16, value: u16) -> Result<Request, BadLine>
+    ensures { result ≡ load_request register value }
 {
-    if 255 < register {
-        return Request::Bad;
-    }
-    if 255 < byte {
-        return Request::Bad;
-    }
-    Request::Controller(Call::Load {
-        register: register as u8,
-        byte: byte as u8,
-    })
+    Ok(Request::Controller(Call::Load {
+        register: byte(register)?,
+        byte: byte(value)?,
+    }))
 }
 
-#[tactic(auto, unfolding(crate::specs::Requests::read_request))]
-fn read(register: u16) -> Request
+#[tactic(auto, unfolding(crate::specs::Requests::read_request, crate::specs::Requests::byte_of))]
+fn read(register: u16) -> Result<Request, BadLine>
     ensures { result ≡ read_request register }
 {
-    if 255 < register {
-        return Request::Bad;
-    }
-    Request::Controller(Call::Read {
-        register: register as u8,
-    })
+    Ok(Request::Controller(Call::Read {
+        register: byte(register)?,
+    }))
 }
 
-#[tactic(auto, unfolding(crate::specs::Requests::view_request))]
-fn view(density: u16, track: u16, sector: u16) -> Request
+#[tactic(auto, unfolding(crate::specs::Requests::view_request, crate::specs::Requests::byte_of, crate::specs::Requests::flag_of))]
+fn view(density: u16, track: u16, sector: u16) -> Result<Request, BadLine>
     ensures { result ≡ view_request density track sector }
 {
-    if 1 < density {
-        return Request::Bad;
-    }
-    if 255 < track {
-        return Request::Bad;
-    }
-    if 255 < sector {
-        return Request::Bad;
-    }
-    Request::View {
-        mfm: density == 1,
-        track: track as u8,
-        sector: sector as u8,
-    }
-}
-
-// Line C names at least one cell after its place; that it names no more than 64 the line has seen to.
-#[tactic(auto, unfolding(crate::specs::Requests::cells_request))]
-fn set_cells(count: usize, place: u16) -> Request
-    ensures { result ≡ cells_request count place }
-{
-    if count < 2 {
-        return Request::Bad;
-    }
-    Request::Rows(Task::SetCells { place })
+    Ok(Request::View {
+        mfm: flag(density)?,
+        track: byte(track)?,
+        sector: byte(sector)?,
+    })
 }
 
 #[tactic(auto, unfolding(crate::specs::Requests::of_none))]
-fn of_none(letter: u8) -> Request
+fn of_none(letter: u8) -> Result<Request, BadLine>
     ensures { result ≡ of_none letter }
 {
     match letter {
-        0 => Request::Nothing,
-        b'B' => Request::Controller(Call::ByteTime),
-        b'U' => Request::Rows(Task::Swap),
-        _ => Request::Bad,
+        b'B' => Ok(Request::Controller(Call::ByteTime)),
+        b'U' => Ok(Request::Rows(Task::Swap)),
+        _ => Err(BadLine),
     }
 }
 
 #[tactic(auto, unfolding(crate::specs::Requests::of_one))]
-fn of_one(letter: u8, a: u16) -> Request
+fn of_one(letter: u8, a: u16) -> Result<Request, BadLine>
     ensures { result ≡ of_one letter a }
 {
     match letter {
         b'N' => set_lines(a),
         b'R' => read(a),
-        b'G' => Request::Controller(Call::Run { limit: a }),
-        b'X' => Request::Controller(Call::SetPosition { position: a }),
-        b'Y' => Request::Controller(Call::SetLength { length: a }),
-        b'K' => Request::Rows(Task::SetCount { count: a }),
-        _ => Request::Bad,
+        b'G' => Ok(Request::Controller(Call::Run { limit: a })),
+        b'X' => Ok(Request::Controller(Call::SetPosition { position: a })),
+        b'Y' => Ok(Request::Controller(Call::SetLength { length: a })),
+        b'K' => Ok(Request::Rows(Task::SetCount { count: a })),
+        _ => Err(BadLine),
     }
 }
 
 #[tactic(auto, unfolding(crate::specs::Requests::of_two))]
-fn of_two(letter: u8, a: u16, b: u16) -> Request
+fn of_two(letter: u8, a: u16, b: u16) -> Result<Request, BadLine>
     ensures { result ≡ of_two letter a b }
 {
     match letter {
         b'P' => power_on(a, b, 0),
         b'W' => load(a, b),
-        b'V' => Request::Rows(Task::Show { place: a, count: b }),
-        _ => Request::Bad,
+        b'V' => Ok(Request::Rows(Task::Show { place: a, count: b })),
+        _ => Err(BadLine),
     }
 }
 
 #[tactic(auto, unfolding(crate::specs::Requests::of_three))]
-fn of_three(letter: u8, a: u16, b: u16, c: u16) -> Request
+fn of_three(letter: u8, a: u16, b: u16, c: u16) -> Result<Request, BadLine>
     ensures { result ≡ of_three letter a b c }
 {
     match letter {
-        b'F' => Request::Rows(Task::Fill {
+        b'F' => Ok(Request::Rows(Task::Fill {
             place: a,
             count: b,
             cell: c,
-        }),
+        })),
         b'P' => power_on(a, b, c),
         b'Q' => view(a, b, c),
-        _ => Request::Bad,
+        _ => Err(BadLine),
     }
 }
 
-#[tactic(auto, unfolding(crate::specs::Requests::request_of))]
-pub fn request_of(line: Line) -> Request
-    ensures { result ≡ request_of line }
+// Line C names at least one cell after its place; that it names no more than 64 the line has seen to.
+#[tactic(auto, unfolding(crate::specs::Requests::asked_of, crate::specs::Requests::cells_request, crate::specs::Requests::of_none, crate::specs::Requests::of_one))]
+fn asked(letter: u8, numbers: &[u16]) -> Result<Request, BadLine>
+    ensures { result ≡ asked_of letter numbers.now }
 {
-    let letter = line.letter;
-    let count = line.count;
-    let numbers = line.numbers;
-    if line.bad {
-        return Request::Bad;
+    match numbers {
+        [place, _, ..] if letter == b'C' => Ok(Request::Rows(Task::SetCells { place: *place })),
+        [] => of_none(letter),
+        [a] => of_one(letter, *a),
+        [a, b] => of_two(letter, *a, *b),
+        [a, b, c] => of_three(letter, *a, *b, *c),
+        _ => Err(BadLine),
     }
-    if letter == b'C' {
-        return set_cells(count, numbers[0]);
-    }
-    match count {
-        0 => of_none(letter),
-        1 => of_one(letter, numbers[0]),
-        2 => of_two(letter, numbers[0], numbers[1]),
-        3 => of_three(letter, numbers[0], numbers[1], numbers[2]),
-        _ => Request::Bad,
+}
+
+// A line with nothing in it but a comment asks for nothing.
+#[tactic(auto, unfolding(crate::specs::Requests::request_of))]
+pub fn request_of(line: &Line) -> Result<Option<Request>, BadLine>
+    ensures { result ≡ request_of line.now }
+{
+    let numbers = line.numbers.as_slice();
+    match line.letter {
+        Some(letter) => asked(letter, numbers).map(Some),
+        None if numbers.is_empty() => Ok(None),
+        None => Err(BadLine),
     }
 }

@@ -1,5 +1,5 @@
 -- The search for an ID, document 01, "Fields". Assumes nothing.
-use Rattle.std.specs.Prelude.{Bool, true, false, cond, ◌&&◌, ℕ, ◌+◌, ltb, leb, eqb}
+use Rattle.std.specs.Prelude.{Bool, true, false, cond, ◌&&◌, ℕ, ◌+◌, ltb, leb, eqb, Option, Some, None}
 use Rattle.scan.specs.Ids.{id_step}
 use Rattle.scan.specs.declared.Id.{Id}
 use Rattle.scan.specs.declared.Scan.{Scan}
@@ -7,8 +7,6 @@ use Rattle.scan.specs.declared.Scan.TheVariants.{Gap}
 use Rattle.scan.specs.declared.Heard.{Heard}
 use Rattle.scan.specs.declared.Heard.TheVariants.{On, Whole}
 use Rattle.command.specs.Commands.{job_of}
-use Rattle.command.specs.declared.SideAsked.{SideAsked}
-use Rattle.command.specs.declared.SideAsked.TheVariants.{Any, Only}
 use Rattle.command.specs.Sizes.{field_size}
 use Rattle.command.specs.declared.Order.{Order}
 use Rattle.command.specs.declared.Job.{Job}
@@ -25,9 +23,9 @@ unfoldable pub pulses_seen : ℕ → Bool → ℕ
 pulses_seen seen index = cond index (cond (ltb seen 5) (seen + 1) 5) seen
 
 -- "with C, its side is S", on the 1797 "the ID's side must equal U": the side that is asked, where one is
-unfoldable pub side_matches : ℕ → SideAsked → Bool
-side_matches side Any = true
-side_matches side (Only only) = eqb side only
+unfoldable pub side_matches : ℕ → Option ℕ → Bool
+side_matches side None = true
+side_matches side (Some only) = eqb side only
 
 -- "its track is TR and, for Type II, its sector is SR and, with C, its side is S": the order has the side
 unfoldable pub sector_matches : Order → Seen → Id → Bool

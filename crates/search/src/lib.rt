@@ -5,7 +5,7 @@ ghost use Rattle.std.specs.Prelude.{◌≡◌};
 ghost use Rattle.search.specs.Search.{pulses_seen, side_matches, sector_matches, matches_for, after_match, after_record, id_found, search_step, search_cell};
 
 use activity::{Act, Activity, Deed, Seen};
-use command::{Job, Order, SideAsked};
+use command::{Job, Order};
 use scan::{Heard, Id, Scan};
 
 // Index pulses seen with this byte time; from the fifth on they need no longer be counted.
@@ -21,21 +21,17 @@ pub fn pulses(seen: u8, index: bool) -> u8
 }
 
 #[tactic(auto, unfolding(crate::specs::Search::side_matches))]
-fn side_matches(side: u8, asked: SideAsked) -> bool
+fn side_matches(side: u8, asked: Option<u8>) -> bool
     ensures { result ≡ side_matches side asked }
 {
-    match asked {
-        SideAsked::Any => true,
-        SideAsked::Only(only) => side == only,
-    }
+    asked.is_none_or(|only| side == only)
 }
 
 #[tactic(auto, unfolding(crate::specs::Search::sector_matches))]
 fn sector_matches(o: Order, s: Seen, id: Id) -> bool
     ensures { result ≡ sector_matches o s id }
 {
-    let side = o.side;
-    (id.track == s.tr) & (id.sector == s.sr) & side_matches(id.side, side)
+    (id.track == s.tr) & (id.sector == s.sr) & side_matches(id.side, o.side)
 }
 
 #[tactic(auto, unfolding(crate::specs::Search::matches_for))]
@@ -43,12 +39,9 @@ fn matches(o: Order, s: Seen, id: Id, job: Job) -> bool
     ensures { result ≡ matches_for o s id job }
 {
     match job {
-        Job::Nothing => false,
         Job::Verify => id.track == s.tr,
-        Job::ReadSector => sector_matches(o, s, id),
-        Job::WriteSector => sector_matches(o, s, id),
-        Job::ReadAddress => false,
-        Job::WriteTrack => false,
+        Job::ReadSector | Job::WriteSector => sector_matches(o, s, id),
+        Job::Nothing | Job::ReadAddress | Job::WriteTrack => false,
     }
 }
 
@@ -68,27 +61,14 @@ fn served(job: Job, ibm: bool, length: u8) -> Activity
 fn found(o: Order, s: Seen, pulses: u8, id: Id) -> Act
     ensures { result ≡ id_found o s pulses id }
 {
-    let command = o.command;
-    let job = command::job_of(command);
+    let job = command::job_of(o.command);
     if matches(o, s, id, job) {
         if id.good {
-            return Act {
-                next: served(job, o.ibm, id.length),
-                deed: Deed::Matched(false),
-                cell: s.cell,
-            };
+            return s.pass(served(job, o.ibm, id.length), Deed::Matched(false));
         }
-        return Act {
-            next: Activity::Search(pulses, Scan::Gap(0)),
-            deed: Deed::Matched(true),
-            cell: s.cell,
-        };
+        return s.pass(Activity::Search(pulses, Scan::Gap(0)), Deed::Matched(true));
     }
-    Act {
-        next: Activity::Search(pulses, Scan::Gap(0)),
-        deed: Deed::Nothing,
-        cell: s.cell,
-    }
+    s.go_on(Activity::Search(pulses, Scan::Gap(0)))
 }
 
 #[tactic(auto, unfolding(crate::specs::Search::search_step))]
@@ -96,11 +76,7 @@ fn hears(o: Order, s: Seen, pulses: u8, heard: Heard) -> Act
     ensures { result ≡ search_step o s pulses heard }
 {
     match heard {
-        Heard::On(scan) => Act {
-            next: Activity::Search(pulses, scan),
-            deed: Deed::Nothing,
-            cell: s.cell,
-        },
+        Heard::On(scan) => s.go_on(Activity::Search(pulses, scan)),
         Heard::Whole(id) => found(o, s, pulses, id),
     }
 }
@@ -124,11 +100,7 @@ pub fn search(o: Order, s: Seen, seen: u8, scan: Scan) -> Act
 {
     let count = pulses(seen, s.index);
     if 5 <= count {
-        return Act {
-            next: Activity::Idle,
-            deed: Deed::NotFound,
-            cell: s.cell,
-        };
+        return s.pass(Activity::Idle, Deed::NotFound);
     }
     hears(o, s, count, scan::hear(s.mfm, s.cell, scan))
 }

@@ -21,6 +21,9 @@ use Rattle.reachable.proofs.Valid.{Valid, load_valid, read_valid}
 use Rattle.hosts.specs.Hosts.{Call, loads, reads, called_of, commands, called_all, NoneAccepted, none, more}
 use Rattle.hosts.proofs.QuietCalls.{load_by}
 use Rattle.served.specs.Served.{given, returned, loads_dr, reads_dr, OnDrq}
+use Rattle.refusals.specs.Numbers.{refused, done}
+use Rattle.std.specs.Result.{is_ok}
+use Rattle.refusals.specs.declared.Refusal.TheVariants as refusal
 
 -- DR and DRQ as they were
 pub record Leaves (m next : Machine) : Type 0 where
@@ -30,19 +33,19 @@ pub record Leaves (m next : Machine) : Type 0 where
 -- ---- a call that is not on DR
 
 -- 5: "register number above 3"
-low_number : (valid busy : Bool) (number b : ℕ) → eqb (load_refusal valid busy number b) 0 ≡ true → leb number 3 ≡ true
+low_number : (valid busy : Bool) (number b : ℕ) → is_ok (load_refusal valid busy number b) ≡ true → leb number 3 ≡ true
 unfolding load_refusal
 low_number false busy number b e = never (cc)
 low_number true busy number b e = by (leb number 3) e
   where
-    by : (low : Bool) → eqb (cond low (cond (busy && guarded number b) 6 0) 5) 0 ≡ true → low ≡ true
+    by : (low : Bool) → is_ok (cond low (cond (busy && guarded number b) (refused refusal.Busy) done) (refused refusal.Register)) ≡ true → low ≡ true
     by true f = refl
     by false f = never (cc)
 
 load_leaves :
     (m : Machine) (l : Lines) (number b : ℕ)
     → eqb number 3 ≡ false
-    → (eqb number 0 && eqb (load_register m l number b).number 0) ≡ false
+    → (eqb number 0 && is_ok (load_register m l number b).outcome) ≡ false
     → Leaves m (load_register m l number b).machine
 unfolding load_regs load_wires
 load_leaves m l number b three =
@@ -71,7 +74,7 @@ load_leaves m l number b three =
 pub read_leaves : (m : Machine) (l : Lines) (number : ℕ) → eqb number 3 ≡ false → Leaves m (read_register m l number).machine
 unfolding read_register read_wires
 read_leaves m l number three =
-    by_cond (λ (q : Read). Leaves m q.machine) (eqb (read_refusal (valid_of m) number) 0)
+    by_cond (λ (q : Read). Leaves m q.machine) (is_ok (read_refusal (valid_of m) number))
     (λ taken. record { dr = refl; drq = rw three (and-true m.wires.drq) })
     (λ refused. record { dr = refl; drq = refl })
 

@@ -6,6 +6,7 @@ ghost use Rattle.stepping.specs.Stepping.{stop_act, track_after, step_act, seek_
 
 use activity::{Act, Activity, Deed, Seen};
 use command::Order;
+use command::bits::{Flag, is_on};
 
 // Stepping is over, by the track 0 rule or because the track is reached. With V a Restore that
 // has not found track 0 is a Seek Error.
@@ -13,26 +14,14 @@ use command::Order;
 fn stop(o: Order, s: Seen, rule: bool) -> Act
     ensures { result ≡ stop_act o s rule }
 {
-    let command = o.command;
-    if command::bits::verifies_track(o.byte) {
-        if command::is_restore(command) & !s.track0 {
-            return Act {
-                next: Activity::Idle,
-                deed: Deed::NotFound,
-                cell: s.cell,
-            };
+    if is_on(o.byte, Flag::Verify) {
+        if command::is_restore(o.command) & !s.track0 {
+            return s.pass(Activity::Idle, Deed::NotFound);
         }
-        return Act {
-            next: Activity::Settle(command::times::settle_time(s.mfm)),
-            deed: Deed::Halt(rule, true),
-            cell: s.cell,
-        };
+        let settling = Activity::Settle(command::times::settle_time(s.mfm));
+        return s.pass(settling, Deed::Halt(rule, true));
     }
-    Act {
-        next: Activity::Idle,
-        deed: Deed::Halt(rule, false),
-        cell: s.cell,
-    }
+    s.pass(Activity::Idle, Deed::Halt(rule, false))
 }
 
 // TR after a step; it wraps.
@@ -42,9 +31,9 @@ fn moved(moves: bool, inward: bool, track: u8) -> u8
 {
     if moves {
         if inward {
-            ((track as u16 + 1) % 256) as u8
+            track.wrapping_add(1)
         } else {
-            ((track as u16 + 255) % 256) as u8
+            track.wrapping_sub(1)
         }
     } else {
         track
@@ -58,11 +47,7 @@ fn step(o: Order, s: Seen, inward: bool, moves: bool, next: Activity) -> Act
     if !inward & s.track0 {
         return stop(o, s, true);
     }
-    Act {
-        next,
-        deed: Deed::Step(inward, moved(moves, inward, s.tr)),
-        cell: s.cell,
-    }
+    s.pass(next, Deed::Step(inward, moved(moves, inward, s.tr)))
 }
 
 #[tactic(auto, unfolding(crate::specs::Stepping::seek_decision))]
@@ -89,11 +74,7 @@ pub fn seek(o: Order, s: Seen, left: u16) -> Act
     if left <= 1 {
         return decide(o, s);
     }
-    Act {
-        next: Activity::Seek(left - 1),
-        deed: Deed::Nothing,
-        cell: s.cell,
-    }
+    s.go_on(Activity::Seek(left - 1))
 }
 
 // Step, Step-in and Step-out.
@@ -102,7 +83,7 @@ pub fn pulse(o: Order, s: Seen) -> Act
     ensures { result ≡ pulse_turn o s }
 {
     let next = Activity::Stop(command::times::step_time(s.mfm, o.byte));
-    step(o, s, o.inward, command::bits::updates_track(o.byte), next)
+    step(o, s, o.inward, is_on(o.byte, Flag::Update), next)
 }
 
 // After the one pulse.
@@ -113,9 +94,5 @@ pub fn stop_in(o: Order, s: Seen, left: u16) -> Act
     if left <= 1 {
         return stop(o, s, false);
     }
-    Act {
-        next: Activity::Stop(left - 1),
-        deed: Deed::Nothing,
-        cell: s.cell,
-    }
+    s.go_on(Activity::Stop(left - 1))
 }

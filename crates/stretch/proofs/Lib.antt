@@ -1,6 +1,6 @@
 -- The laws of `stretch`.
-pub mod Arms
 pub mod Clearing
 pub mod Opening
+pub mod Reaching
 pub mod Stretching
 pub mod Passing

@@ -1,11 +1,9 @@
 -- A byte time in which a byte is transferred does what the definition of a byte time says. Assumes nothing.
 use mathlib.Core.Path.{◌≡◌, refl, ap}
 use mathlib.Core.Bool.{Bool, true, ◌||◌}
-use mathlib.Core.List.{List, [], ◌∷◌}
 use Prim.Native.Nat.{ℕ, ◌≤◌, ◌-◌}
 use native.Mathlib.Omega.{arith}
 use lib.Dec.{ltb, eqb}
-use types.Run.{miss}
 use borrow.Author.Tests.{ltb-false, le-leb}
 use Rattle.common.proofs.Cases.{by_cond, neither}
 use Rattle.crc.specs.Crc.{crc_byte}
@@ -22,35 +20,11 @@ use Rattle.activity.specs.Acts.{taken_of}
 use Rattle.writing.specs.Writing.{put_cell}
 use Rattle.formatting.specs.Formatting.{until_last, laid_cell, laid_crc, format_cell}
 use Rattle.act.specs.Turns.{begun_activity, activity_act, act_of}
-use Rattle.activity.proofs.Arms.{Among}
 use Rattle.effects.specs.Effects.{delivered, cell_taken, effect_of}
 use Rattle.effects.specs.declared.Parts.{Parts}
 use Rattle.transfer.specs.declared.Transfer.{Transfer}
-use Rattle.transfer.specs.declared.Transfer.TheVariants.{Nothing, Byte}
+use Rattle.std.specs.Prelude.{Option, Some, None}
 use Rattle.transfer.specs.Transfers.{read_transfer, write_transfer, format_transfer, transfer_in}
-
--- ---- the arm `_` of the code
-
-abbrev keeping : List ℕ
-keeping = 0 ∷ 1 ∷ 2 ∷ 3 ∷ 4 ∷ 5 ∷ 6 ∷ 8 ∷ 9 ∷ 10 ∷ 11 ∷ 14 ∷ []
-
-pub keeps : (s : Seen) (a : Activity) → Among keeping a → Nothing ≡ transfer_in s a
-unfolding transfer_in
-keeps s Idle h = refl
-keeps s (Seek left) h = refl
-keeps s Pulse h = refl
-keeps s (Stop left) h = refl
-keeps s (Settle left) h = refl
-keeps s (Search pulses scan) h = refl
-keeps s (Window left passed run) h = refl
-keeps s (Data left crc deleted) h = absurd (miss keeping 7 tt h)
-keeps s (Hunt pulses run) h = refl
-keeps s (Address passed crc track) h = refl
-keeps s Await h = refl
-keeps s (Preamble left passed) h = refl
-keeps s (Put left crc) h = absurd (miss keeping 12 tt h)
-keeps s (Format crc) h = absurd (miss keeping 13 tt h)
-keeps s (FormatCrc crc) h = refl
 
 -- ---- what the byte time does
 
@@ -85,9 +59,9 @@ takes o s a next cell does busy =
     }
 
 -- what a transfer says of the byte time
-abbrev pub Says : Order → Seen → Activity → Transfer → Type 0
-Says o s a Nothing = Unit {0}
-Says o s a (Byte next dr cell) = Goes o s a next dr cell
+abbrev pub Says : Order → Seen → Activity → Option Transfer → Type 0
+Says o s a None = Unit {0}
+Says o s a (Some t) = Goes o s a t.next t.dr t.cell
 
 read_says : (o : Order) (s : Seen) (left crc : ℕ) (deleted : Bool) → Says o s (Data left crc deleted) (read_transfer s left crc deleted)
 unfolding read_transfer act_of begun_activity activity_act data_cell busy_in

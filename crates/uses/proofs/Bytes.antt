@@ -8,7 +8,7 @@ use native.Mathlib.Omega.{arith}
 use lib.Dec.{eqb}
 use Rattle.registers.specs.declared.Lines.{Lines}
 use Rattle.wd.specs.declared.Machine.{Machine}
-use Rattle.wd.specs.declared.Loaded.{Loaded}
+use Rattle.wd.specs.declared.Called.{Called}
 use Rattle.wd.specs.declared.Read.{Read}
 use Rattle.wd.specs.Reads.{read_register}
 use Rattle.reachable.specs.ByteTimes.{machine_after, row_after}
@@ -19,6 +19,7 @@ use Rattle.uses.specs.Courses.{Accepted, since, Course, took, course_then}
 use Rattle.uses.specs.Sessions.{loaded_by, bytes_loaded, read_by, bytes_read}
 use Rattle.uses.proofs.EveryUse.{desk_of, called_at, turned, at_call, at_time, byte_time_turns, run_turns}
 use Rattle.uses.proofs.Endings.{last_passes}
+use Rattle.std.specs.Result.{is_ok}
 
 -- ---- the bytes loaded
 
@@ -65,7 +66,7 @@ given_within : {d e : Desk} (made : Made d e) (h : Host) → given_in (made_then
 unfolding made_then passed_in given_in
 given_within (load l number b byte r told) h = refl
 given_within (read l number r told) h = refl
-given_within (byte_time_call l r row told) h = given_none (cond (eqb r.number 0) 1 0) l h
+given_within (byte_time_call l r row told) h = given_none (cond (is_ok r.outcome) 1 0) l h
 given_within (run l limit r row told) h = given_none r.tally.passed l h
 
 given_use :
@@ -125,7 +126,7 @@ unfolding made_then passed_in read_by returned called_of
 returned_made {d} (load l number b byte r told) h k =
     rw (zero-add (suc k))
     (returned_call (loads l number b byte) h d k
-    ∙ ap (λ (q : Loaded). returned_in h (desk_of q.machine d.row) (suc k)) (sym told.told))
+    ∙ ap (λ (q : Called). returned_in h (desk_of q.machine d.row) (suc k)) (sym told.told))
 returned_made {d} (read l number r told) h k =
     rw (zero-add (suc k))
     (returned_call (reads l number) h d k
@@ -146,7 +147,7 @@ returned_within : {d e : Desk} (made : Made d e) (h : Host) → returned_in (mad
 unfolding made_then passed_in returned_in
 returned_within (load l number b byte r told) h = refl
 returned_within (read l number r told) h = refl
-returned_within {d} (byte_time_call l r row told) h = returned_none (cond (eqb r.number 0) 1 0) l h d
+returned_within {d} (byte_time_call l r row told) h = returned_none (cond (is_ok r.outcome) 1 0) l h d
 returned_within {d} (run l limit r row told) h = returned_none r.tally.passed l h d
 
 returned_use :

@@ -5,7 +5,7 @@ use mathlib.Core.List.{[], ◌∷◌}
 use mathlib.Core.Logic.{inl, inr}
 use Prim.Native.Nat.{ℕ, zero, suc, ◌+◌, ◌-◌, ◌≤◌, ◌<◌}
 use native.Mathlib.Nat.{zero-add, add-zero, add-suc, add_assoc}
-use native.Mathlib.Decide.{dec_lt, ℕ_discrete}
+use native.Mathlib.Decide.{dec_lt}
 use native.Mathlib.Omega.{arith}
 use lib.Dec.{eqb}
 use lib.ListN.{length}
@@ -13,11 +13,11 @@ use Rattle.common.proofs.Cases.{never, by_cond, not_on}
 use Rattle.command.specs.Commands.{decoded_of}
 use Rattle.command.specs.declared.Command.{Command}
 use Rattle.command.specs.declared.Command.TheVariants.{ForceInterrupt}
-use Rattle.command.specs.declared.Decoded.TheVariants.{Taken}
+use Rattle.std.specs.Prelude.{Some}
 use Rattle.activity.specs.Limits.{busy_in}
 use Rattle.registers.specs.declared.Lines.{Lines}
 use Rattle.wd.specs.declared.Machine.{Machine}
-use Rattle.wd.specs.declared.Loaded.{Loaded}
+use Rattle.wd.specs.declared.Called.{Called}
 use Rattle.wd.specs.declared.Read.{Read}
 use Rattle.wd.specs.Loads.{load_register}
 use Rattle.wd.specs.declared.Ran.{Ran}
@@ -35,6 +35,9 @@ use Rattle.uses.specs.Courses.{Accepted, since, Course, silent, scene_of, course
 use Rattle.uses.proofs.QuietUse.{Quiet, quiet_made, quiet_use}
 use Rattle.uses.proofs.Statuses.{made_valid, use_valid, since_valid, busy_showed}
 use Rattle.uses.proofs.EveryUse.{desk_of, called_at, turned, at_time, byte_time_turns, run_turns, lines_times, every_use, run_told, empty_run_lem}
+use Rattle.refusals.specs.Numbers.{refused, done}
+use Rattle.refusals.proofs.Outcomes.{done_decided}
+use Rattle.std.specs.Result.{is_ok}
 
 -- ---- inside a call
 
@@ -52,9 +55,9 @@ pub quiet_run :
     → suc i < (run_of d.machine l limit d.row).tally.passed
     → signals (machine_after (suc i) d.machine l d.row) ≡ false
 unfolding empty_run
-quiet_run d l limit i before = by (ℕ_discrete (row_refusal d.machine (length d.row)) 0)
+quiet_run d l limit i before = by (done_decided (row_refusal d.machine (length d.row)))
   where
-    by : Dec (row_refusal d.machine (length d.row) ≡ 0) → signals (machine_after (suc i) d.machine l d.row) ≡ false
+    by : Dec (row_refusal d.machine (length d.row) ≡ done) → signals (machine_after (suc i) d.machine l d.row) ≡ false
     by (yes opens) = (run_makes d.machine l limit d.row opens).quiet i before
     by (no refused) =
         absurd (omega (arith, subst (λ (q : Run). suc i < q.ran.tally.passed) (empty_run_lem d l limit refused) before))
@@ -68,7 +71,7 @@ unfolding passed_in made_then
 quiet_within (load l number b byte r told) h i before = absurd (omega arith)
 quiet_within (read l number r told) h i before = absurd (omega arith)
 quiet_within (byte_time_call l r row told) h i before =
-    absurd (by_cond (λ (n : ℕ). suc i < n → ⊥) (eqb r.number 0) (λ e x. omega arith) (λ e x. omega arith) before)
+    absurd (by_cond (λ (n : ℕ). suc i < n → ⊥) (is_ok r.outcome) (λ e x. omega arith) (λ e x. omega arith) before)
 quiet_within {d} (run l limit r row told) h i before =
     ap (λ (e : Desk). signals e.machine) (within_times l h r.tally.passed d (suc i) (omega arith))
     ∙ quiet_run d l limit i (subst (λ (q : Ran). suc i < q.tally.passed) (run_told told).0 before)
@@ -126,8 +129,8 @@ unfolding made_then passed_in no_command commands called_of
 ends_by_time {d} {e} (load l number b byte r told) h alone on off =
     absurd
     (call_ends_none h d e on off (loads l number b byte)
-    (ap (λ (q : Loaded). eqb number 0 && eqb q.number 0) (sym told.told) ∙ not_on _ alone)
-    (ap (λ (q : Loaded). desk_of q.machine d.row) told.told))
+    (ap (λ (q : Called). eqb number 0 && is_ok q.outcome) (sym told.told) ∙ not_on _ alone)
+    (ap (λ (q : Called). desk_of q.machine d.row) told.told))
 ends_by_time {d} {e} (read l number r told) h alone on off =
     absurd
     (call_ends_none h d e on off (reads l number) refl (ap (λ (q : Read). desk_of q.machine d.row) told.told))
@@ -166,13 +169,13 @@ module _ (c : Accepted) (course : Course c) where
   last_passes = (ends_by_time course.last silent course.alone_last busy_before idle_after).0
 
 -- the load that begins it, as the definition has it
-pub taken : (c : Accepted) → (load_register c.machine c.lines 0 c.byte).number ≡ 0
-taken c = ap (λ (q : Loaded). q.number) (sym c.call.told) ∙ c.number
+pub taken : (c : Accepted) → (load_register c.machine c.lines 0 c.byte).outcome ≡ done
+taken c = ap (λ (q : Called). q.outcome) (sym c.call.told) ∙ c.outcome
 
 pub since_loaded : (c : Accepted) (h : Host) → since c ≡ loaded (scene_of c h)
-since_loaded c h = ap (λ (q : Loaded). desk_of q.machine c.row) c.call.told
+since_loaded c h = ap (λ (q : Called). desk_of q.machine c.row) c.call.told
 
-module _ (c : Accepted) (command : Command) (is : decoded_of c.machine.chip c.byte ≡ Taken command)
+module _ (c : Accepted) (command : Command) (is : decoded_of c.machine.chip c.byte ≡ Some command)
     (other : command ≡ ForceInterrupt → ⊥) where
   module _ (course : Course c) (h : Host) (rest : Quiet h course.after) where
     abbrev host : Host

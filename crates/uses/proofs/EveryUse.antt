@@ -4,13 +4,10 @@ use mathlib.Core.Bool.{cond}
 use mathlib.Core.List.{List}
 use Prim.Native.Nat.{ℕ, zero, suc, ◌+◌}
 use native.Mathlib.Nat.{zero-add, suc-add, add_assoc}
-use native.Mathlib.Decide.{ℕ_discrete}
-use lib.Dec.{eqb}
 use lib.ListN.{length}
-use borrow.Author.Tests.{eq-eqb, ne_eqb}
 use Rattle.registers.specs.declared.Lines.{Lines}
 use Rattle.wd.specs.declared.Machine.{Machine}
-use Rattle.wd.specs.declared.Loaded.{Loaded}
+use Rattle.wd.specs.declared.Called.{Called}
 use Rattle.wd.specs.declared.Read.{Read}
 use Rattle.wd.specs.declared.Passed.{Passed}
 use Rattle.wd.specs.declared.Ran.{Ran}
@@ -21,6 +18,9 @@ use Rattle.reachable.proofs.Runs.{run_makes}
 use Rattle.hosts.specs.Hosts.{Call, loads, reads, called_of, called_all, Host, Desk, served_at, passes_under, at}
 use Rattle.uses.specs.CallContracts.{ByteTimeCall, RunCall}
 use Rattle.uses.specs.Uses.{Made, load, read, byte_time_call, run, Use, over, next, defined_by, documented, answered_by, Answered, passed_in, passed, calls_first, calls_then, starts_with, passes_then, made_then, host_of, due_at, IsHost}
+use Rattle.refusals.specs.Numbers.{refused, done}
+use Rattle.refusals.proofs.Outcomes.{done_decided, done-ok, not_done-ok}
+use Rattle.std.specs.Result.{is_ok}
 
 abbrev pub desk_of : Machine → List ℕ → Desk
 desk_of m row = record { machine = m; row = row }
@@ -93,9 +93,9 @@ module _ {m : Machine} {l : Lines} {row row' : List ℕ} where
 pub byte_time_turns :
     (d : Desk) (l : Lines) (r : Passed) (row : List ℕ)
     → ByteTimeCall d.machine l d.row r row
-    → desk_of r.machine row ≡ turned (cond (eqb r.number 0) 1 0) l d
+    → desk_of r.machine row ≡ turned (cond (is_ok r.outcome) 1 0) l d
 unfolding machine_after row_after
-byte_time_turns d l r row c = by (ℕ_discrete r.number 0)
+byte_time_turns d l r row c = by (done_decided r.outcome)
   where
     told : (r ≡ byte_time d.machine l d.row) × (row ≡ byte_time_row d.machine l d.row)
     told = byte_time_told c
@@ -103,12 +103,12 @@ byte_time_turns d l r row c = by (ℕ_discrete r.number 0)
     after : desk_of r.machine row ≡ turned 1 l d
     after = λ i. desk_of (told.0 i).machine (told.1 i)
 
-    by : Dec (r.number ≡ 0) → desk_of r.machine row ≡ turned (cond (eqb r.number 0) 1 0) l d
-    by (yes done) = rw (eq-eqb _ _ done) after
+    by : Dec (r.outcome ≡ done) → desk_of r.machine row ≡ turned (cond (is_ok r.outcome) 1 0) l d
+    by (yes done) = rw (done-ok _ done) after
     by (no other) =
-        let refused : (byte_time d.machine l d.row).number ≡ 0 → ⊥ =
-        λ e. other (ap (λ (r : Passed). r.number) told.0 ∙ e) in
-        rw (ne_eqb _ _ other)
+        let refused : (byte_time d.machine l d.row).outcome ≡ done → ⊥ =
+        λ e. other (ap (λ (r : Passed). r.outcome) told.0 ∙ e) in
+        rw (not_done-ok _ other)
         (λ i. record {
           machine = (ap (λ (r : Passed). r.machine) told.0 ∙ byte_time_machine d.machine l d.row refused) i;
           row = (told.1 ∙ byte_time_row_lem d.machine l d.row refused) i;
@@ -117,11 +117,11 @@ byte_time_turns d l r row c = by (ℕ_discrete r.number 0)
 -- a refused run makes none
 pub empty_run_lem :
     (d : Desk) (l : Lines) (limit : ℕ)
-    → (row_refusal d.machine (length d.row) ≡ 0 → ⊥)
+    → (row_refusal d.machine (length d.row) ≡ done → ⊥)
     → run_from d.machine l limit d.row
     ≡ record { ran = empty_run (row_refusal d.machine (length d.row)) d.machine; row = d.row }
 unfolding run_from
-empty_run_lem d l limit refused = simp (ne_eqb _ _ refused)
+empty_run_lem d l limit refused = simp (not_done-ok _ refused)
 
 -- a run comes to those that it reports
 pub run_turns :
@@ -129,7 +129,7 @@ pub run_turns :
     → RunCall d.machine l limit d.row r row
     → desk_of r.machine row ≡ turned r.tally.passed l d
 unfolding machine_after row_after empty_run
-run_turns d l limit r row c = by (ℕ_discrete (row_refusal d.machine (length d.row)) 0)
+run_turns d l limit r row c = by (done_decided (row_refusal d.machine (length d.row)))
   where
     told : (r ≡ run_of d.machine l limit d.row) × (row ≡ run_row d.machine l limit d.row)
     told = run_told c
@@ -137,7 +137,7 @@ run_turns d l limit r row c = by (ℕ_discrete (row_refusal d.machine (length d.
     left : desk_of r.machine row ≡ desk_of (run_of d.machine l limit d.row).machine (run_row d.machine l limit d.row)
     left = λ i. desk_of (told.0 i).machine (told.1 i)
 
-    by : Dec (row_refusal d.machine (length d.row) ≡ 0)
+    by : Dec (row_refusal d.machine (length d.row) ≡ done)
         → desk_of r.machine row ≡ turned r.tally.passed l d
     by (yes opens) =
         let made = run_makes d.machine l limit d.row opens in
@@ -157,7 +157,7 @@ unfolding made_then passed_in called_of
 made_host {d} (load l number b byte r told) h k =
     rw (zero-add k)
     (due_call (loads l number b byte) h d k
-    ∙ ap (λ (q : Loaded). due_at h (desk_of q.machine d.row) k) (sym told.told))
+    ∙ ap (λ (q : Called). due_at h (desk_of q.machine d.row) k) (sym told.told))
 made_host {d} (read l number r told) h k =
     rw (zero-add k)
     (due_call (reads l number) h d k
@@ -180,7 +180,7 @@ every_use {d} (next made rest) h k =
 
 made_defined : {d e : Desk} (made : Made d e) → e ≡ defined_by d made
 unfolding defined_by
-made_defined {d} (load l number b byte r told) = ap (λ (q : Loaded). desk_of q.machine d.row) told.told
+made_defined {d} (load l number b byte r told) = ap (λ (q : Called). desk_of q.machine d.row) told.told
 made_defined {d} (read l number r told) = ap (λ (q : Read). desk_of q.machine d.row) told.told
 made_defined (byte_time_call l r row told) =
     let (answer, left) = byte_time_told told in

@@ -4,13 +4,15 @@ use mathlib.Core.Bool.{true, false, ◌&&◌}
 use Prim.Native.Nat.{ℕ, zero, suc}
 use lib.Dec.{eqb}
 use Rattle.registers.specs.declared.Lines.{Lines}
-use Rattle.wd.specs.declared.Loaded.{Loaded}
+use Rattle.wd.specs.declared.Called.{Called}
 use Rattle.wd.specs.declared.Read.{Read}
 use Rattle.common.proofs.Cases.{both, not_on}
 use Rattle.reachable.specs.ByteTimes.{machine_after, row_after}
 use Rattle.hosts.specs.Hosts.{Call, loads, reads, called_of, commands, NoneAccepted, none, more, Host, Desk, passes_under, at}
 use Rattle.uses.specs.Uses.{Made, load, read, byte_time_call, run, Use, over, next, throughout, no_command, calls_first, calls_then, starts_with, passes_then, made_then, host_of}
 use Rattle.uses.proofs.EveryUse.{called_at, turned, at_call, at_time, byte_time_turns, run_turns}
+use Rattle.refusals.specs.Numbers.{refused}
+use Rattle.std.specs.Result.{is_ok}
 
 -- none of a host's calls is an accepted command, however long it goes on
 abbrev pub Quiet : Host → Desk → Type 0
@@ -34,8 +36,8 @@ pub quiet_made : {d e : Desk} (made : Made d e) (h : Host) → no_command d e ma
 unfolding made_then no_command commands called_of
 quiet_made {d} (load l number b byte r told) h alone rest =
     quiet_call (loads l number b byte) h d
-    (ap (λ (q : Loaded). eqb number 0 && eqb q.number 0) (sym told.told) ∙ not_on _ alone)
-    (subst (λ (q : Loaded). Quiet h (record { machine = q.machine; row = d.row })) told.told rest)
+    (ap (λ (q : Called). eqb number 0 && is_ok q.outcome) (sym told.told) ∙ not_on _ alone)
+    (subst (λ (q : Called). Quiet h (record { machine = q.machine; row = d.row })) told.told rest)
 quiet_made {d} (read l number r told) h alone rest =
     quiet_call (reads l number) h d refl
     (subst (λ (q : Read). Quiet h (record { machine = q.machine; row = d.row })) told.told rest)

@@ -7,7 +7,7 @@ use Rattle.common.proofs.Cases.{never}
 use Rattle.common.specs.Bits.{bit_of}
 use Rattle.command.specs.Commands.{decoded_of}
 use Rattle.command.specs.declared.Command.TheVariants.{ReadSector}
-use Rattle.command.specs.declared.Decoded.TheVariants.{Taken}
+use Rattle.std.specs.Prelude.{Some}
 use Rattle.registers.specs.declared.Lines.{Lines}
 use Rattle.wd.specs.declared.Machine.{Machine}
 use Rattle.wd.specs.declared.Read.{Read}
@@ -27,7 +27,7 @@ module _ (c : Accepted) (course : Course c) {multiple : Bool} (reads : SectorRea
   abbrev host : Host
   host = course_then course silent
 
-  pub is_read : decoded_of c.machine.chip c.byte ≡ Taken ReadSector
+  pub is_read : decoded_of c.machine.chip c.byte ≡ Some ReadSector
   is_read = decodes_read c.machine.chip c.byte reads
 
   rest : Quiet silent course.after

@@ -10,7 +10,7 @@ use lib.Dec.{eqb}
 use Rattle.common.proofs.Cases.{never, both, by_cond, not_on}
 use Rattle.registers.specs.declared.Lines.{Lines}
 use Rattle.wd.specs.declared.Machine.{Machine}
-use Rattle.wd.specs.declared.Loaded.{Loaded}
+use Rattle.wd.specs.declared.Called.{Called}
 use Rattle.wd.specs.declared.Read.{Read}
 use Rattle.wd.specs.declared.Ran.{Ran}
 use Rattle.reachable.specs.ByteTimes.{machine_after, row_after, signals}
@@ -22,6 +22,7 @@ use Rattle.uses.specs.Sessions.{serves}
 use Rattle.uses.proofs.EveryUse.{desk_of, called_at, turned, at_call, at_time, byte_time_turns, run_told, run_turns, made_host}
 use Rattle.uses.proofs.Endings.{within_times, quiet_run}
 use Rattle.uses.proofs.Bytes.{ends_on, last_on}
+use Rattle.std.specs.Result.{is_ok}
 
 -- ---- it serves each DRQ
 
@@ -87,12 +88,12 @@ on_made true {d} (load l number b byte r told) h n serve rest =
     let (on, never_read) = allowed (eqb number 3) true d.machine.wires.drq serve in
     subst (EachOn true (calls_then (loads l number b byte) h) d) (sym (zero-add (suc n)))
     (on_call true (loads l number b byte) h d n on refl
-    (subst (λ (q : Loaded). EachOn true h (desk_of q.machine d.row) (suc n)) told.told rest))
+    (subst (λ (q : Called). EachOn true h (desk_of q.machine d.row) (suc n)) told.told rest))
 on_made false {d} (load l number b byte r told) h n serve rest =
     let (on, never_load) = allowed (eqb number 3) false d.machine.wires.drq serve in
     subst (EachOn false (calls_then (loads l number b byte) h) d) (sym (zero-add (suc n)))
     (on_call false (loads l number b byte) h d n (λ e. never (cc)) (never_load refl)
-    (subst (λ (q : Loaded). EachOn false h (desk_of q.machine d.row) (suc n)) told.told rest))
+    (subst (λ (q : Called). EachOn false h (desk_of q.machine d.row) (suc n)) told.told rest))
 on_made true {d} (read l number r told) h n serve rest =
     let (on, never_read) = allowed (eqb number 3) false d.machine.wires.drq serve in
     subst (EachOn true (calls_then (reads l number) h) d) (sym (zero-add (suc n)))
@@ -168,7 +169,7 @@ off_within writing (read l number r told) h serve k before = absurd (omega arith
 off_within writing {d} (byte_time_call l r row told) h serve k before =
     off_times l h _ d (not_on d.machine.wires.drq serve)
     (λ i before.
-    absurd (by_cond (λ (n : ℕ). suc i < n → ⊥) (eqb r.number 0) (λ e x. omega arith) (λ e x. omega arith) before))
+    absurd (by_cond (λ (n : ℕ). suc i < n → ⊥) (is_ok r.outcome) (λ e x. omega arith) (λ e x. omega arith) before))
     k before
 off_within writing {d} (run l limit r row told) h serve k before =
     off_times l h _ d (not_on d.machine.wires.drq serve)

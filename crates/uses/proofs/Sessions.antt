@@ -8,7 +8,7 @@ use Rattle.exact.specs.Demand2.{Session, begun, asked, resumed}
 use Rattle.command.specs.Commands.{decoded_of}
 use Rattle.command.specs.declared.Command.{Command}
 use Rattle.command.specs.declared.Command.TheVariants.{ForceInterrupt}
-use Rattle.command.specs.declared.Decoded.TheVariants.{Taken}
+use Rattle.std.specs.Prelude.{Some}
 use Rattle.uses.specs.Uses.{passed_in, passed, made_then, host_of, due_at}
 use Rattle.uses.specs.Courses.{Accepted, since, Course, silent, course_then}
 use Rattle.uses.specs.Sessions.{WriteThenRead, session_of}
@@ -46,7 +46,7 @@ module _ (t : WriteThenRead) where
   pub writer_alone : (n : ℕ) → AloneUntil s.writer (begun s) n
   writer_alone n = subst (λ (d : Desk). AloneUntil s.writer d n) begun_is (λ k l. writer_quiet k)
 
-  module _ (command : Command) (is : decoded_of t.write.machine.chip t.write.byte ≡ Taken command) (other : command ≡ ForceInterrupt → ⊥) where
+  module _ (command : Command) (is : decoded_of t.write.machine.chip t.write.byte ≡ Some command) (other : command ≡ ForceInterrupt → ⊥) where
     pub write_ends : EndsAt s.writer (begun s) s.written
     write_ends =
         subst (λ (d : Desk). EndsAt s.writer d s.written) begun_is
@@ -90,7 +90,7 @@ module _ (t : WriteThenRead) where
   pub reader_alone : (n : ℕ) → AloneUntil s.reader (resumed s) n
   reader_alone n = subst (λ (d : Desk). AloneUntil s.reader d n) resumed_is (λ k l. reader_quiet k)
 
-  module _ (command : Command) (is : decoded_of t.read.machine.chip t.read.byte ≡ Taken command) (other : command ≡ ForceInterrupt → ⊥) where
+  module _ (command : Command) (is : decoded_of t.read.machine.chip t.read.byte ≡ Some command) (other : command ≡ ForceInterrupt → ⊥) where
     pub read_ends : EndsAt s.reader (resumed s) s.read
     read_ends =
         subst (λ (d : Desk). EndsAt s.reader d s.read) resumed_is

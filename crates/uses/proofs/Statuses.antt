@@ -5,7 +5,7 @@ use Prim.Native.Nat.{ℕ}
 use Rattle.common.specs.Bits.{bit_of}
 use Rattle.activity.specs.Limits.{busy_in}
 use Rattle.registers.specs.declared.Lines.{Lines}
-use Rattle.wd.specs.declared.Loaded.{Loaded}
+use Rattle.wd.specs.declared.Called.{Called}
 use Rattle.wd.specs.declared.Read.{Read}
 use Rattle.wd.specs.declared.Passed.{Passed}
 use Rattle.wd.specs.declared.Ran.{Ran}
@@ -23,7 +23,7 @@ use Rattle.uses.proofs.EveryUse.{byte_time_told, run_told}
 
 pub made_valid : {d e : Desk} → Made d e → Valid d.machine → Valid e.machine
 made_valid {d} (load l number b byte r told) v =
-    subst (λ (q : Loaded). Valid q.machine) (sym told.told) (load_valid d.machine l number b v)
+    subst (λ (q : Called). Valid q.machine) (sym told.told) (load_valid d.machine l number b v)
 made_valid {d} (read l number r told) v =
     subst (λ (q : Read). Valid q.machine) (sym told.told) (read_valid d.machine l number v)
 made_valid {d} (byte_time_call l r row told) v =
@@ -38,9 +38,9 @@ use_valid (next made rest) v = use_valid rest (made_valid made v)
 -- so is the machine that has accepted a command
 pub since_valid : (c : Accepted) → Valid (since c).machine
 since_valid c =
-    subst (λ (q : Loaded). Valid q.machine) (sym c.call.told)
+    subst (λ (q : Called). Valid q.machine) (sym c.call.told)
     (load_valid c.machine c.lines 0 c.byte
-    (accepted_valid c.machine c.lines c.byte (ap (λ (q : Loaded). q.number) (sym c.call.told) ∙ c.number)))
+    (accepted_valid c.machine c.lines c.byte (ap (λ (q : Called). q.outcome) (sym c.call.told) ∙ c.outcome)))
 
 -- ---- a read of the status
 

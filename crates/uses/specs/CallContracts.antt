@@ -7,8 +7,7 @@ use Rattle.command.specs.declared.Chip.{Chip}
 use Rattle.activity.specs.declared.Activity.TheVariants.{Idle}
 use Rattle.registers.specs.declared.Lines.{Lines}
 use Rattle.wd.specs.declared.Machine.{Machine}
-use Rattle.wd.specs.declared.Started.{Started}
-use Rattle.wd.specs.declared.Loaded.{Loaded}
+use Rattle.wd.specs.declared.Called.{Called}
 use Rattle.wd.specs.declared.Read.{Read}
 use Rattle.wd.specs.declared.Passed.{Passed}
 use Rattle.wd.specs.declared.Ran.{Ran}
@@ -17,7 +16,7 @@ use Rattle.wd.proofs as wd
 use Rattle.picture.proofs as picture
 use Rattle.viewer.proofs as viewer
 
-pub record PowerOnCall (length : ℕ) (mfm : Bool) (chip : Chip) (r : Started) : Type 0 where
+pub record PowerOnCall (length : ℕ) (mfm : Bool) (chip : Chip) (r : Called) : Type 0 where
   pub lifetimes : Lfts 0
   pub exit : _
   pub told : wd.Machine.power_on.Reads.Learnt lifetimes (length, (mfm, (chip, tt))) r exit
@@ -36,7 +35,7 @@ pub record PoweredOn (size : ℕ) (mfm : Bool) (chip : Chip) (m : Machine) : Typ
   pub wires : m.wires ≡ record { drq = false; intrq = false }
   pub type1 : m.flags.type1 ≡ true
 
-pub record LoadCall (m : Machine) (l : Lines) (number b : ℕ) (r : Loaded) : Type 0 where
+pub record LoadCall (m : Machine) (l : Lines) (number b : ℕ) (r : Called) : Type 0 where
   pub lifetimes : Lfts 0
   pub exit : _
   pub told : wd.Machine.load_register.Reads.Learnt lifetimes (m, (l, (number, (b, tt)))) r exit

@@ -5,7 +5,7 @@ use Rattle.command.specs.declared.Chip.{Chip}
 use Rattle.command.specs.declared.Chip.TheVariants.{Wd1797}
 use Rattle.registers.specs.declared.Lines.{Lines}
 use Rattle.wd.specs.declared.Machine.{Machine}
-use Rattle.wd.specs.declared.Loaded.{Loaded}
+use Rattle.wd.specs.declared.Called.{Called}
 use Rattle.wd.specs.declared.Read.{Read}
 use Rattle.wd.specs.declared.Passed.{Passed}
 use Rattle.hosts.specs.Hosts.{Host, Desk}
@@ -13,6 +13,7 @@ use Rattle.hosts.specs.Scenes.{Scene, settling}
 use Rattle.in_time.specs.Demand3.{OnRing}
 use Rattle.uses.specs.CallContracts.{LoadCall, ReadCall, ByteTimeCall}
 use Rattle.uses.specs.Uses.{Made, Use, throughout, no_command, passed_in, passed, made_then, host_of}
+use Rattle.refusals.specs.Numbers.{done}
 
 -- ---- what the status byte shows
 
@@ -66,9 +67,9 @@ pub record Accepted : Type 0 where
   pub lines : Lines
   pub byte : ℕ
   pub row : List ℕ
-  pub answer : Loaded
+  pub answer : Called
   pub call : LoadCall machine lines 0 byte answer
-  pub number : answer.number ≡ 0
+  pub outcome : answer.outcome ≡ done
 
 -- after that call
 abbrev pub since : Accepted → Desk
@@ -149,7 +150,7 @@ pub data WriteByte (chip : Chip) (b : ℕ) : Type 0 where
 -- where a use of demand 3's command has come to after n byte times
 pub record Ending (c : Accepted) (e : Desk) (n : ℕ) : Type 0 where
   -- the next byte time is not refused
-  pub goes_on : (l : Lines) (r : Passed) (row : List ℕ) → ByteTimeCall e.machine l e.row r row → r.number ≡ 0
+  pub goes_on : (l : Lines) (r : Passed) (row : List ℕ) → ByteTimeCall e.machine l e.row r row → r.outcome ≡ done
   -- "within L + 1,078 byte times where such an ID exists, and .. within 5L, where none does"
   pub where_one : OnRing (track_of c) → settling (track_of c) + (length c.row + 1078) ≤ n → Shows e busy_bit false
   pub where_none : (OnRing (track_of c) → ⊥) → settling (track_of c) + 5 * length c.row ≤ n → Shows e busy_bit false

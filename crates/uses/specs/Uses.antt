@@ -1,7 +1,7 @@
 -- A use: calls of any kind, one after another, over one row; and the host that it is. Assumes nothing.
-use Rattle.std.specs.Prelude.{◌≡◌, Bool, true, cond, not, ◌&&◌, List, [], ◌∷◌, ℕ, zero, suc, ◌+◌, ◌<◌, eqb}
+use Rattle.std.specs.Prelude.{◌≡◌, Bool, true, cond, not, ◌&&◌, List, [], ◌∷◌, ℕ, zero, suc, ◌+◌, ◌<◌, eqb, is_ok}
 use Rattle.registers.specs.declared.Lines.{Lines}
-use Rattle.wd.specs.declared.Loaded.{Loaded}
+use Rattle.wd.specs.declared.Called.{Called}
 use Rattle.wd.specs.declared.Read.{Read}
 use Rattle.wd.specs.declared.Passed.{Passed}
 use Rattle.wd.specs.declared.Ran.{Ran}
@@ -15,7 +15,7 @@ use Rattle.uses.specs.CallContracts.{LoadCall, ReadCall, ByteTimeCall, RunCall}
 
 -- one call that has been made, with any arguments, as its contract tells: refused or not, it leads from one desk to another
 pub data Made (d : Desk) : Desk → Type 0 where
-  load : (l : Lines) (number b : ℕ) → b < 256 → (r : Loaded)
+  load : (l : Lines) (number b : ℕ) → b < 256 → (r : Called)
       → LoadCall d.machine l number b r
       → Made d (record { machine = r.machine; row = d.row })
   read : (l : Lines) (number : ℕ) (r : Read)
@@ -40,7 +40,7 @@ throughout such (next {d} {e} made rest) = such d e made && throughout such rest
 
 -- "no other command accepted": it is none, or is refused
 unfoldable pub no_command : (d e : Desk) → Made d e → Bool
-no_command d e (load l number b byte r told) = not (eqb number 0 && eqb r.number 0)
+no_command d e (load l number b byte r told) = not (eqb number 0 && is_ok r.outcome)
 no_command d e (read l number r told) = true
 no_command d e (byte_time_call l r row told) = true
 no_command d e (run l limit r row told) = true
@@ -56,7 +56,7 @@ head_loaded d e (run l limit r row told) = l.hlt
 unfoldable pub passed_in : {d e : Desk} → Made d e → ℕ
 passed_in (load l number b byte r told) = 0
 passed_in (read l number r told) = 0
-passed_in (byte_time_call l r row told) = cond (eqb r.number 0) 1 0
+passed_in (byte_time_call l r row told) = cond (is_ok r.outcome) 1 0
 passed_in (run l limit r row told) = r.tally.passed
 
 unfoldable pub passed : {d e : Desk} → Use d e → ℕ
@@ -112,7 +112,7 @@ passes_then (suc n) l h =
 unfoldable pub made_then : {d e : Desk} → Made d e → Host → Host
 made_then (load l number b byte r told) h = calls_then (loads l number b byte) h
 made_then (read l number r told) h = calls_then (reads l number) h
-made_then (byte_time_call l r row told) h = passes_then (cond (eqb r.number 0) 1 0) l h
+made_then (byte_time_call l r row told) h = passes_then (cond (is_ok r.outcome) 1 0) l h
 made_then (run l limit r row told) h = passes_then r.tally.passed l h
 
 -- a use, and then what another host does

@@ -1,162 +1,141 @@
 // The viewer: the data cells of a sector, as a part of the side that they stand on.
 #![tactic(auto)]
 
-ghost use Rattle.std.specs.Prelude.{◌≡◌, true, ◌-◌, length};
+ghost use Rattle.std.specs.Prelude.{◌≡◌, true, ◌-◌, length, IfSome, IfOk, OnOk};
 ghost use Rattle.scan.specs.Rows.{length_within};
-ghost use Rattle.viewer.specs.Sectors.{register_over, span_behind, span_in, behind_in, span_on};
-ghost use Rattle.viewer.specs.Views.{cells_within, view_refusal, second_place, place_of, part_cells, part_start, number_of};
+ghost use Rattle.viewer.specs.Sectors.{register_over, SpanWithin, wanted_of, span_behind, span_on};
+ghost use Rattle.viewer.specs.Views.{cells_within, view_refusal, PlaceWithin, place_of, part_cells, part_start, number_of};
 
-use fields::{Behind, Found};
+use fields::Found;
+use refusals::{Outcome, Refusal};
+use scan::Id;
 
 // Where a side has the data cells of a sector: from one cell up to another.
 #[derive(Clone, Copy)]
-pub enum Span {
-    Nowhere,
-    Cells { from: usize, to: usize },
+pub struct Span {
+    pub from: usize,
+    pub to: usize,
 }
 
-// The side that they stand on, or the number that the viewer refuses with.
+// The side that they stand on, and where.
 #[derive(Clone, Copy)]
 pub enum Place {
-    Zero { from: usize, to: usize },
-    One { from: usize, to: usize },
-    Refused { number: u8 },
+    Zero(Span),
+    One(Span),
+}
+
+// The sector that is looked for.
+#[derive(Clone, Copy)]
+struct Wanted {
+    mfm: bool,
+    track: u8,
+    sector: u8,
 }
 
 // The register after the cells from one place up to another, flags ignored.
+#[tactic(auto, using(crate::proofs::Steps::registering))]
 fn register(side: &[u16], crc: u16, from: usize, to: usize) -> u16
     ensures { result ≡ register_over side.now crc from (to - from) }
 {
     let mut register = crc;
-    let mut at = from;
-    while at < to {
+    for at in from..to {
         register = crc::step(register, (fields::cell(side, at) % 256) as u8);
-        at += 1;
     }
     register
 }
 
-// The data cells after an ID with this length byte, if the ID has a data mark and a good data field before the side's end.
-#[tactic(auto, unfolding(crate::specs::Sectors::span_behind, crate::specs::Sectors::span_marked, crate::specs::Sectors::span_from))]
-fn span_behind(side: &[u16], mfm: bool, length: u8, behind: u32) -> Span
-    ensures { result ≡ span_behind mfm side.now length behind }
-{
-    match fields::mark_behind(side, mfm, behind) {
-        Behind::Nothing => Span::Nowhere,
-        Behind::Mark { mark, cell } => {
-            let from = behind as usize + cell as usize;
-            let to = from + command::sizes::size(length) as usize;
-            if side.len() < to + 2 {
-                return Span::Nowhere;
-            }
-            let crc = scan::mark_crc(mfm, scan::mark_byte(mark));
-            if register(side, crc, from, to + 2) != 0 {
-                return Span::Nowhere;
-            }
-            Span::Cells { from, to }
+impl Wanted {
+    // Whether an ID is a good one of the track and sector.
+    #[tactic(auto, unfolding(crate::specs::Sectors::wanted_of))]
+    fn is_met_by(self, id: Id) -> bool
+        ensures { result ≡ wanted_of id self.track self.sector }
+    {
+        id.good & (id.track == self.track) & (id.sector == self.sector)
+    }
+
+    // The data cells after an ID that was found, if it has a data mark and a good data field before the side's end.
+    #[tactic(auto, unfolding(crate::specs::Sectors::span_behind, crate::specs::Sectors::span_marked, crate::specs::Sectors::span_from))]
+    fn span_behind(self, side: &[u16], found: Found) -> Option<Span>
+        ensures value { result ≡ span_behind self.mfm side.now found.id.length found.behind }
+        ensures within { IfSome result (SpanWithin side.now) }
+    {
+        let marked = fields::mark_behind(side, self.mfm, found.behind)?;
+        let from = found.behind as usize + marked.cell as usize;
+        let to = from + command::sizes::size(found.id.length) as usize;
+        if side.len() < to + 2 {
+            return None;
         }
-    }
-}
-
-// The data cells of an ID that was found, if it is a good one of the track and sector.
-#[tactic(auto, unfolding(crate::specs::Sectors::span_in, crate::specs::Sectors::wanted_of))]
-fn span_in(side: &[u16], mfm: bool, found: Found, track: u8, sector: u8) -> Span
-    ensures { result ≡ span_in mfm side.now track sector found }
-{
-    match found {
-        Found::Nothing => Span::Nowhere,
-        Found::At { id, behind } => {
-            if id.good & (id.track == track) & (id.sector == sector) {
-                return span_behind(side, mfm, id.length, behind);
-            }
-            Span::Nowhere
+        let crc = scan::mark_crc(self.mfm, marked.mark.byte());
+        if register(side, crc, from, to + 2) != 0 {
+            return None;
         }
+        Some(Span { from, to })
     }
-}
 
-// Where the search for IDs goes on: after the one that was found, or nowhere.
-#[tactic(auto, unfolding(crate::specs::Sectors::behind_in))]
-fn behind_in(found: Found, to: u32) -> u32
-    ensures { result ≡ behind_in found to }
-{
-    match found {
-        Found::Nothing => to,
-        Found::At { id: _, behind } => behind,
-    }
-}
-
-// The first sector of a side that qualifies.
-fn span_on(side: &[u16], mfm: bool, track: u8, sector: u8) -> Span
-    requires { length_within (length side.now) ≡ true }
-    ensures { result ≡ span_on mfm side.now track sector }
-{
-    let to = side.len() as u32;
-    let mut from = 0;
-    while from < to {
-        let found = fields::next_id(side, mfm, from, to);
-        let span = span_in(side, mfm, found, track, sector);
-        match span {
-            Span::Nowhere => {}
-            Span::Cells { from, to } => {
-                return Span::Cells { from, to };
+    // The first sector of a side that qualifies.
+    #[tactic(auto, using(crate::proofs::Search::searching), unfolding(crate::specs::Sectors::span_in))]
+    fn span_on(self, side: &[u16]) -> Option<Span>
+        requires { length_within (length side.now) ≡ true }
+        ensures value { result ≡ span_on self.mfm side.now self.track self.sector }
+        ensures within { IfSome result (SpanWithin side.now) }
+    {
+        let to = side.len() as u32;
+        let mut from = 0;
+        while let Some(found) = fields::next_id(side, self.mfm, from, to) {
+            if self.is_met_by(found.id)
+                && let Some(span) = self.span_behind(side, found)
+            {
+                return Some(span);
             }
+            from = found.behind;
         }
-        from = behind_in(found, to);
+        None
     }
-    Span::Nowhere
 }
 
+#[tactic(auto, unfolding(crate::specs::Views::cells_within))]
 fn cells_within(side: &[u16]) -> bool
     ensures { result ≡ cells_within side.now }
 {
-    let mut i = 0;
-    while i < side.len() {
-        if 511 < side[i] {
-            return false;
-        }
-        i += 1;
-    }
-    true
+    side.iter().all(|&cell| cell <= 511)
 }
 
-// 1, then 4; 0 where the sides may be searched.
+// 1, then 4, where the sides may not be searched.
 #[tactic(auto, unfolding(crate::specs::Views::view_refusal))]
-fn refusal(side0: &[u16], side1: &[u16]) -> u8
-    ensures { result ≡ view_refusal side0.now side1.now }
+fn refusal(side0: &[u16], side1: &[u16]) -> Outcome
+    ensures value { result ≡ view_refusal side0.now side1.now }
+    ensures lengths { OnOk result ((length_within (length side0.now) ≡ true) × (length_within (length side1.now) ≡ true)) }
 {
-    if scan::length_within(side0.len()) & scan::length_within(side1.len()) {
-        if cells_within(side0) & cells_within(side1) {
-            return 0;
-        }
-        return 4;
+    if !(scan::length_within(side0.len()) & scan::length_within(side1.len())) {
+        return Err(Refusal::Length);
     }
-    1
-}
-
-// Side 1, where side 0 has no such sector.
-#[tactic(auto, unfolding(crate::specs::Views::second_place))]
-fn second(side1: &[u16], mfm: bool, track: u8, sector: u8) -> Place
-    requires { length_within (length side1.now) ≡ true }
-    ensures { result ≡ second_place (span_on mfm side1.now track sector) }
-{
-    match span_on(side1, mfm, track, sector) {
-        Span::Nowhere => Place::Refused { number: 11 },
-        Span::Cells { from, to } => Place::One { from, to },
+    if !(cells_within(side0) & cells_within(side1)) {
+        return Err(Refusal::Cell);
     }
+    Ok(())
 }
 
 // Where the sector's data cells stand.
-pub fn find(side0: &[u16], side1: &[u16], mfm: bool, track: u8, sector: u8) -> Place
-    ensures { result ≡ place_of side0.now side1.now mfm track sector }
+#[tactic(auto, unfolding(crate::specs::Views::place_of, crate::specs::Views::first_place, crate::specs::Views::second_place))]
+pub fn find(
+    side0: &[u16],
+    side1: &[u16],
+    mfm: bool,
+    track: u8,
+    sector: u8,
+) -> Result<Place, Refusal>
+    ensures value { result ≡ place_of side0.now side1.now mfm track sector }
+    ensures within { IfOk result (PlaceWithin side0.now side1.now) }
 {
-    let number = refusal(side0, side1);
-    if number != 0 {
-        return Place::Refused { number };
+    refusal(side0, side1)?;
+    let wanted = Wanted { mfm, track, sector };
+    if let Some(span) = wanted.span_on(side0) {
+        return Ok(Place::Zero(span));
     }
-    match span_on(side0, mfm, track, sector) {
-        Span::Nowhere => second(side1, mfm, track, sector),
-        Span::Cells { from, to } => Place::Zero { from, to },
+    if let Some(span) = wanted.span_on(side1) {
+        return Ok(Place::One(span));
     }
+    Err(Refusal::Sector)
 }
 
 // The sector's data cells as they stand there; an empty part of side 0 where the viewer refuses.
@@ -166,25 +145,18 @@ pub fn view<'a>(side0: &'a [u16], side1: &'a [u16], mfm: bool, track: u8, sector
     ensures start { result.ref_ptr ≡ part_start (place_of side0.now side1.now mfm track sector) side0.entry.ref_ptr side1.entry.ref_ptr }
 {
     match find(side0, side1, mfm, track, sector) {
-        Place::Zero { from, to } => {
-            return &side0[from..to];
-        }
-        Place::One { from, to } => {
-            return &side1[from..to];
-        }
-        Place::Refused { number: _ } => {
-            return &side0[0..0];
-        }
+        Ok(Place::Zero(span)) => &side0[span.from..span.to],
+        Ok(Place::One(span)) => &side1[span.from..span.to],
+        Err(_) => &side0[0..0],
     }
 }
 
-// The number that goes with the part: 0, or the refusal.
+// The number that goes with the part: 0, or the refusal's.
 pub fn number(side0: &[u16], side1: &[u16], mfm: bool, track: u8, sector: u8) -> u8
     ensures { result ≡ number_of (place_of side0.now side1.now mfm track sector) }
 {
     match find(side0, side1, mfm, track, sector) {
-        Place::Zero { from: _, to: _ } => 0,
-        Place::One { from: _, to: _ } => 0,
-        Place::Refused { number } => number,
+        Ok(_) => 0,
+        Err(refusal) => refusal.number(),
     }
 }

@@ -1,66 +1,52 @@
 -- A run, byte time by byte time, as the loop of the code has it. Assumes nothing.
 use mathlib.Core.Path.{◌≡◌, refl, sym, ap, ap₂, ◌∙◌}
-use mathlib.Core.Bool.{Bool, true, false, cond, not, ◌||◌}
+use mathlib.Core.Bool.{Bool, true, false, cond}
 use mathlib.Core.List.{List}
 use Prim.Native.Nat.{ℕ, zero, suc, ◌+◌, ◌-◌, ◌≤◌, ◌<◌}
-use native.Mathlib.Decide.{ℕ_discrete}
 use native.Mathlib.Numerals.{sub-one}
 use native.Mathlib.Omega.{arith}
-use lib.Dec.{eqb}
 use lib.ListN.{length}
-use borrow.Author.Tests.{eqb-true, eqb-false, not-false, eq-eqb, ne_eqb}
-use Rattle.common.proofs.Cases.{neither}
 use Rattle.wd.proofs.Valid.{row_length, pass_open}
 use Rattle.registers.specs.declared.Lines.{Lines}
 use Rattle.wd.specs.declared.Machine.{Machine}
 use Rattle.wd.specs.declared.Passed.{Passed}
 use Rattle.wd.specs.declared.Ran.{Ran}
+use Rattle.wd.specs.Counts.{MayPass, HasRoom}
 use Rattle.wd.specs.Rows.{row_refusal, byte_time, byte_time_row, ran_to, empty_run, stops_at, Run, next_in, onward, runs_on, run_from}
+use Rattle.refusals.specs.declared.Refusal.{Refusal}
+use Rattle.refusals.specs.Numbers.{done, refused}
+use Rattle.refusals.proofs.Outcomes.{done-ok}
 
 abbrev pub at : Ran → List ℕ → Run
 at ran row = record { ran = ran; row = row }
 
 -- refusals 2 and 3 end a run before its first byte time
 pub refused_run :
-    (m : Machine) (l : Lines) (limit : ℕ) (row : List ℕ)
-    → (row_refusal m (length row) ≡ 0 → ⊥)
-    → run_from m l limit row ≡ at (empty_run (row_refusal m (length row)) m) row
+    (m : Machine) (l : Lines) (limit : ℕ) (row : List ℕ) (r : Refusal)
+    → row_refusal m (length row) ≡ refused r
+    → run_from m l limit row ≡ at (empty_run (refused r) m) row
 unfolding run_from
-refused_run m l limit row h = simp (ne_eqb _ _ h)
+refused_run m l limit row r h = rw h
 
 pub open_run :
     (m : Machine) (l : Lines) (limit : ℕ) (row : List ℕ)
-    → row_refusal m (length row) ≡ 0
-    → run_from m l limit row ≡ runs_on limit l (at (empty_run 0 m) row)
+    → row_refusal m (length row) ≡ done
+    → run_from m l limit row ≡ runs_on limit l (at (empty_run done m) row)
 unfolding run_from
-open_run m l limit row h = simp (eq-eqb _ _ h)
+open_run m l limit row h = simp (done-ok _ h)
 
 pub no_more : (n : ℕ) (l : Lines) (r : Run) → n ≤ 0 → runs_on n l r ≡ r
 unfolding runs_on
 no_more zero l r h = refl
 no_more (suc n) l r h = absurd (omega arith)
 
--- "Limit 0 only makes the checks for 2 and 3.": what the code asks before the first byte time
+-- "Limit 0 only makes the checks for 2 and 3."
 pub none_run :
     (m : Machine) (l : Lines) (limit : ℕ) (row : List ℕ)
-    → (not (eqb (row_refusal m (length row)) 0) || eqb limit 0) ≡ true
-    → run_from m l limit row ≡ at (empty_run (row_refusal m (length row)) m) row
-none_run m l limit row e = by (ℕ_discrete (row_refusal m (length row)) 0)
-  where
-    by : Dec (row_refusal m (length row) ≡ 0) → run_from m l limit row ≡ at (empty_run (row_refusal m (length row)) m) row
-    by (yes h) =
-        let none : eqb limit 0 ≡ true = rw (eq-eqb (row_refusal m (length row)) 0 h) at e in
-        let zero : limit ≡ 0 = eqb-true limit 0 none in
-        open_run m l limit row h
-        ∙ no_more limit l (at (empty_run 0 m) row) (omega arith)
-        ∙ ap (λ (n : ℕ). at (empty_run n m) row) (sym h)
-    by (no h) = refused_run m l limit row h
-
-pub some_run : (number limit : ℕ) → (not (eqb number 0) || eqb limit 0) ≡ false → (number ≡ 0) × (0 < limit)
-some_run number limit e =
-    let h = neither (not (eqb number 0)) (eqb limit 0) e in
-    let some : limit ≡ 0 → ⊥ = eqb-false limit 0 h.1 in
-    (eqb-true number 0 (not-false _ h.0), omega arith)
+    → row_refusal m (length row) ≡ done
+    → limit ≡ 0
+    → run_from m l limit row ≡ at (empty_run done m) row
+none_run m l limit row h none = open_run m l limit row h ∙ no_more limit l (at (empty_run done m) row) (omega arith)
 
 pub one_more : (n : ℕ) (l : Lines) (r : Run) → 0 < n → runs_on n l r ≡ cond (stops_at (next_in l r)) (onward l r) (runs_on (n - 1) l (onward l r))
 unfolding runs_on
@@ -71,16 +57,14 @@ one_more (suc n) l r h = ap (λ (k : ℕ). cond (stops_at (next_in l r)) (onward
 -- the counts have room
 pub record Along (l : Lines) (whole : ℕ) (start : Run) (left : ℕ) (ran : Ran) (row : List ℕ) : Type 0 where
   pub same : length row ≡ length start.row
-  pub passes : row_refusal ran.machine (length row) ≡ 0
+  pub passes : MayPass ran.machine row
   pub rest : runs_on whole l start ≡ runs_on left l (at ran row)
-  pub room : ran.tally.passed + left ≤ 65535
-  pub inward : ran.tally.inward ≤ ran.tally.passed
-  pub outward : ran.tally.outward ≤ ran.tally.passed
+  pub room : HasRoom ran.tally left
 
 pub starts :
     (l : Lines) (m : Machine) (limit : ℕ) (ran : Ran) (row : List ℕ)
-    → ran ≡ empty_run 0 m
-    → row_refusal m (length row) ≡ 0
+    → ran ≡ empty_run done m
+    → MayPass m row
     → limit < 65536
     → Along l limit (at ran row) limit ran row
 unfolding empty_run
@@ -89,9 +73,7 @@ starts l m limit ran row e h k =
       same = refl;
       passes = ap (λ (r : Ran). row_refusal r.machine (length row)) e ∙ h;
       rest = refl;
-      room = rw e (omega arith);
-      inward = rw e (omega arith);
-      outward = rw e (omega arith);
+      room = rw e (omega arith, (omega arith, omega arith));
     }
 
 -- a turn of the loop, as its body's calls say it
@@ -115,7 +97,7 @@ module _ (l : Lines) (ran : Ran) (row : List ℕ) (passed : Passed) (row' : List
   row_kept : length row' ≡ length row
   row_kept = ap length hr ∙ row_length ran.machine l row
 
-  still_passes : row_refusal ran.machine (length row) ≡ 0 → row_refusal ran'.machine (length row') ≡ 0
+  still_passes : MayPass ran.machine row → MayPass ran'.machine row'
   unfolding ran_to
   still_passes h =
       ap₂ row_refusal (ap (λ (r : Ran). r.machine) (hn ∙ ap (ran_to ran.tally) hp)) (ap length hr)
@@ -123,15 +105,12 @@ module _ (l : Lines) (ran : Ran) (row : List ℕ) (passed : Passed) (row' : List
 
   -- one byte time more, and the loop goes on
   pub again : (whole : ℕ) (start : Run) (left : ℕ) → Along l whole start left ran row → 0 < left → stops_at passed ≡ false
-      → (ran'.tally.passed ≤ ran.tally.passed + 1)
-      × ((ran'.tally.inward ≤ ran'.tally.passed) × (ran'.tally.outward ≤ ran'.tally.passed))
+      → ((n : ℕ) → HasRoom ran.tally (n + 1) → HasRoom ran'.tally n)
       → Along l whole start (left - 1) ran' row'
   again whole start left v h e k =
       record {
         same = row_kept ∙ v.same;
         passes = still_passes v.passes;
         rest = v.rest ∙ step left false h e ∙ ap (runs_on (left - 1) l) turned;
-        room = omega (arith, v.room, k.0);
-        inward = k.1.0;
-        outward = k.1.1;
+        room = k (left - 1) (omega (arith, v.room.0), v.room.1);
       }

@@ -8,7 +8,7 @@ use native.Mathlib.Omega.{arith}
 use lib.Dec.{ltb, eqb}
 use lib.ListN.{length, get_or}
 use lib.Seq.{set-get_or}
-use borrow.Author.Tests.{eqb-true, eqb-false, not-false, eq-eqb, ne_eqb, lt-ltb, le-ltb}
+use borrow.Author.Tests.{ne_eqb, lt-ltb, le-ltb}
 use Rattle.common.proofs.Cases.{by_cond, neither}
 use Rattle.activity.specs.Acts.{pass}
 use Rattle.activity.specs.Limits.{busy_in}
@@ -33,6 +33,9 @@ use Rattle.wd.specs.Rows.{row_refusal, under, refused_at, done_by, byte_time, by
 use Rattle.wd.specs.Stretches.{after_stretch, first_stretch, ran_on}
 use Rattle.wd.proofs.Valid.{Held, valid_ring, open_row, pass_open}
 use Rattle.wd.proofs.Runs.{at, no_more, Along, starts}
+use Rattle.refusals.specs.Numbers.{Outcome, done}
+use Rattle.refusals.proofs.Outcomes.{done-ok, not_err-done, not_ok-done, refused-done}
+use Rattle.std.specs.Result.{is_ok, is_err}
 
 -- ---- one byte time
 
@@ -90,8 +93,8 @@ module _ (m : Machine) (l : Lines) (cell : ℕ) (a : Activity)
 
 -- what a stretch asks of the run that it comes in: no refusal, no wire, and the Ready that is seen has been seen
 pub record Quiet (l : Lines) (ran : Ran) (row : List ℕ) : Type 0 where
-  pub opens : row_refusal ran.machine (length row) ≡ 0
-  pub done : ran.number ≡ 0
+  pub opens : row_refusal ran.machine (length row) ≡ done
+  pub done : ran.outcome ≡ done
   pub drq : ran.machine.wires.drq ≡ false
   pub intrq : ran.machine.wires.intrq ≡ false
   pub seen : ran.machine.past.ready ≡ l.ready
@@ -100,7 +103,7 @@ pub record Quiet (l : Lines) (ran : Ran) (row : List ℕ) : Type 0 where
 abbrev stepped : Ran → Machine → Ran
 stepped ran m =
     record {
-      number = 0;
+      outcome = done;
       tally = record { passed = ran.tally.passed + 1; inward = ran.tally.inward; outward = ran.tally.outward };
       machine = m;
     }
@@ -118,13 +121,13 @@ module _ (l : Lines) (ran : Ran) (row : List ℕ) (quiet : Quiet l ran row) (a :
   low : ltb 511 (under m row) ≡ false
   low = le-ltb 511 (under m row) (omega (arith, taken))
 
-  passed_still : byte_time m l row ≡ record { number = 0; pulse = pulse.Off; machine = moved_of m l.ready a }
+  passed_still : byte_time m l row ≡ record { outcome = done; pulse = pulse.Off; machine = moved_of m l.ready a }
   unfolding byte_time done_by
-  passed_still = rw (eq-eqb _ 0 quiet.opens, low, turns) refl
+  passed_still = rw (done-ok _ quiet.opens, low, turns) refl
 
   row_still : byte_time_row m l row ≡ row
   unfolding byte_time_row
-  row_still = rw (eq-eqb _ 0 quiet.opens, low, turns) (set-get_or row m.ring.position 0)
+  row_still = rw (done-ok _ quiet.opens, low, turns) (set-get_or row m.ring.position 0)
 
   stops_still : stops_at (byte_time m l row) ≡ false
   unfolding stops_at
@@ -156,7 +159,7 @@ module _ (l : Lines) (ran : Ran) (row : List ℕ) (quiet : Quiet l ran row) (lim
   abbrev behind : ℕ → Ran
   behind i =
       record {
-        number = 0;
+        outcome = done;
         tally = record { passed = ran.tally.passed + i; inward = ran.tally.inward; outward = ran.tally.outward };
         machine = machine_behind i;
       }
@@ -165,8 +168,8 @@ module _ (l : Lines) (ran : Ran) (row : List ℕ) (quiet : Quiet l ran row) (lim
   unfolding ran_on machine_behind
   behind_is zero =
       ap₂
-      (λ (number passed : ℕ). record {
-        number = number;
+      (λ (outcome : Outcome) (passed : ℕ). record {
+        outcome = outcome;
         tally = record { passed = passed; inward = ran.tally.inward; outward = ran.tally.outward };
         machine = base;
       })
@@ -214,7 +217,7 @@ module _ (l : Lines) (ran : Ran) (row : List ℕ) (quiet : Quiet l ran row) (lim
   steps i =
       ap₂
       (λ (passed : ℕ) (m : Machine). record {
-        number = 0;
+        outcome = done;
         tally = record { passed = passed; inward = ran.tally.inward; outward = ran.tally.outward };
         machine = m;
       })
@@ -254,7 +257,7 @@ module _ (l : Lines) (ran : Ran) (row : List ℕ) (quiet : Quiet l ran row) (lim
         run_still l (behind i) row still (activity_after (suc i) base.activity) some inside busy (rw cell (passes.taken i less)) does n
         ∙ ap (λ (r : Ran). runs_on n l (at r row)) (steps i)
 
-    opens : row_refusal (moved i) (length row) ≡ 0
+    opens : row_refusal (moved i) (length row) ≡ done
     opens =
         let p = passed_still l (behind i) row still (activity_after (suc i) base.activity) some inside busy (rw cell (passes.taken i less)) does in
         let r = row_still l (behind i) row still (activity_after (suc i) base.activity) some inside busy (rw cell (passes.taken i less)) does in
@@ -283,7 +286,7 @@ module _ (l : Lines) (ran : Ran) (row : List ℕ) (quiet : Quiet l ran row) (lim
   stretch_runs n = (along k (omega arith)).1 n ∙ ap (λ (r : Ran). runs_on n l (at r row)) (sym (behind_is k))
 
   -- and may go on after it
-  pub stretch_opens : row_refusal (ran_on ran k l.ready).machine (length row) ≡ 0
+  pub stretch_opens : row_refusal (ran_on ran k l.ready).machine (length row) ≡ done
   stretch_opens = ap (λ (r : Ran). row_refusal r.machine (length row)) (behind_is k) ∙ (along k (omega arith)).0.opens
 
 -- ---- the loop
@@ -301,23 +304,23 @@ tally_on ran (suc k) ready = rw (ne_eqb (suc k) 0 (λ z. absurd (omega arith)))
 -- after a byte time that has not stopped the run
 after_pass :
     (m : Machine) (l : Lines) (row : List ℕ)
-    → (byte_time m l row).number ≡ 0
+    → (byte_time m l row).outcome ≡ done
     → (byte_time m l row).machine.past.ready ≡ l.ready
 unfolding byte_time refused_at done_by cell_turn act_applied
 after_pass m l row =
-    by_cond (λ (p : Passed). p.number ≡ 0 → p.machine.past.ready ≡ l.ready) (eqb (row_refusal m (length row)) 0)
+    by_cond (λ (p : Passed). p.outcome ≡ done → p.machine.past.ready ≡ l.ready) (is_ok (row_refusal m (length row)))
     (λ e.
-    by_cond (λ (p : Passed). p.number ≡ 0 → p.machine.past.ready ≡ l.ready) (ltb 511 (under m row))
-    (λ f h. absurd (omega arith))
+    by_cond (λ (p : Passed). p.outcome ≡ done → p.machine.past.ready ≡ l.ready) (ltb 511 (under m row))
+    (λ f h. absurd (refused-done _ h))
     (λ f h. refl))
-    (λ e h. absurd (eqb-false _ _ e h))
+    (λ e h. absurd (not_ok-done _ e h))
 
-pub goes_on : (p : Passed) → stops_at p ≡ false → (p.number ≡ 0) × (p.machine.wires.drq ≡ false) × (p.machine.wires.intrq ≡ false)
+pub goes_on : (p : Passed) → stops_at p ≡ false → (p.outcome ≡ done) × (p.machine.wires.drq ≡ false) × (p.machine.wires.intrq ≡ false)
 unfolding stops_at
 goes_on p e =
-    let h = neither (not (eqb p.number 0) || p.machine.wires.drq) p.machine.wires.intrq e in
-    let g = neither (not (eqb p.number 0)) p.machine.wires.drq h.0 in
-    (eqb-true p.number 0 (not-false _ g.0), g.1, h.1)
+    let h = neither (is_err p.outcome || p.machine.wires.drq) p.machine.wires.intrq e in
+    let g = neither (is_err p.outcome) p.machine.wires.drq h.0 in
+    (not_err-done p.outcome g.0, g.1, h.1)
 
 -- so nothing keeps a stretch from coming next
 pub quiet_after :
@@ -325,15 +328,15 @@ pub quiet_after :
     → passed ≡ byte_time ran.machine l row
     → next ≡ ran_to ran.tally passed
     → stops_at passed ≡ false
-    → row_refusal next.machine (length row') ≡ 0
+    → row_refusal next.machine (length row') ≡ done
     → Quiet l next row'
 unfolding ran_to
 quiet_after l ran row passed next row' hp hn on opens =
     let g = goes_on passed on in
-    let told = after_pass ran.machine l row (sym (ap (λ (p : Passed). p.number) hp) ∙ g.0) in
+    let told = after_pass ran.machine l row (sym (ap (λ (p : Passed). p.outcome) hp) ∙ g.0) in
     record {
       opens = opens;
-      done = ap (λ (r : Ran). r.number) hn ∙ g.0;
+      done = ap (λ (r : Ran). r.outcome) hn ∙ g.0;
       drq = ap (λ (r : Ran). r.machine.wires.drq) hn ∙ g.1;
       intrq = ap (λ (r : Ran). r.machine.wires.intrq) hn ∙ g.2;
       seen = ap (λ (r : Ran). r.machine.past.ready) hn ∙ ap (λ (p : Passed). p.machine.past.ready) hp ∙ told;
@@ -354,10 +357,10 @@ begins false false false false k n e more = (refl, refl, refl, e)
 
 pub quiet_first :
     (l : Lines) (m : Machine) (limit : ℕ) (row : List ℕ) (k : ℕ)
-    → row_refusal m (length row) ≡ 0
+    → row_refusal m (length row) ≡ done
     → k ≡ first_stretch m l.ready limit row
     → 0 < k
-    → Quiet l (empty_run 0 m) row × (k ≡ stretch_ahead m.ring m.activity limit row)
+    → Quiet l (empty_run done m) row × (k ≡ stretch_ahead m.ring m.activity limit row)
 unfolding first_stretch empty_run
 quiet_first l m limit row k opens hk more =
     let b = begins m.wires.drq m.wires.intrq m.past.ready l.ready k (stretch_ahead m.ring m.activity limit row) hk more in
@@ -383,11 +386,11 @@ module _ (l : Lines) (next : Ran) (row' : List ℕ) (whole : ℕ) (start : Run) 
   abbrev after : Ran
   after = ran_on next k l.ready
 
-  opens_after : row_refusal after.machine (length row') ≡ 0
+  opens_after : row_refusal after.machine (length row') ≡ done
   unfolding ran_on
   opens_after = by k refl
     where
-      by : (n : ℕ) → k ≡ n → row_refusal after.machine (length row') ≡ 0
+      by : (n : ℕ) → k ≡ n → row_refusal after.machine (length row') ≡ done
       by zero e = rw e v.passes
       by (suc n) e = stretch_opens l next row' (comes (omega arith)).0 left k (passes_next (omega arith))
 
@@ -411,15 +414,13 @@ module _ (l : Lines) (next : Ran) (row' : List ℕ) (whole : ℕ) (start : Run) 
         same = v.same;
         passes = opens_after;
         rest = v.rest ∙ rest_after most;
-        room = rw (tally_on next k l.ready) (omega (arith, v.room));
-        inward = rw (tally_on next k l.ready) (omega (arith, v.inward));
-        outward = rw (tally_on next k l.ready) (omega (arith, v.outward));
+        room = rw (tally_on next k l.ready) (omega (arith, v.room.0), (omega (arith, v.room.1.0), omega (arith, v.room.1.1)));
       }))
 
 -- ---- where a run begins
 
-module _ (l : Lines) (m : Machine) (limit : ℕ) (row : List ℕ) (opens : row_refusal m (length row) ≡ 0) (fits : limit < 65536)
-    (ran : Ran) (e : ran ≡ empty_run 0 m) (k : ℕ) (hk : k ≡ first_stretch m l.ready limit row) (most : k ≤ limit) where
+module _ (l : Lines) (m : Machine) (limit : ℕ) (row : List ℕ) (opens : row_refusal m (length row) ≡ done) (fits : limit < 65536)
+    (ran : Ran) (e : ran ≡ empty_run done m) (k : ℕ) (hk : k ≡ first_stretch m l.ready limit row) (most : k ≤ limit) where
   begun : Along l limit (at ran row) limit ran row
   begun = starts l m limit ran row e opens fits
 
@@ -429,7 +430,7 @@ module _ (l : Lines) (m : Machine) (limit : ℕ) (row : List ℕ) (opens : row_r
 
   -- there is room for the stretch
   pub first_fits : (ran.tally.passed + k < 65536) × (ran.machine.ring.position + k < 65536)
-  first_fits = (omega (arith, begun.room, most), stretch_fits l ran row limit (at ran row) limit begun k comes)
+  first_fits = (omega (arith, begun.room.0, most), stretch_fits l ran row limit (at ran row) limit begun k comes)
 
   pub first_along : (ran' : Ran) (row' : List ℕ) → ran' ≡ ran_on ran k l.ready → row' ≡ row → Along l limit (at ran row) (limit - k) ran' row'
   first_along = stretch_along l ran row limit (at ran row) limit begun k comes most
@@ -439,7 +440,7 @@ module _ (l : Lines) (m : Machine) (limit : ℕ) (row : List ℕ) (opens : row_r
       (ran' : Ran) (row' : List ℕ)
       → ran' ≡ ran_on ran k l.ready
       → row' ≡ row
-      → runs_on limit l (at (empty_run 0 m) row) ≡ runs_on (limit - k) l (at ran' row')
+      → runs_on limit l (at (empty_run done m) row) ≡ runs_on (limit - k) l (at ran' row')
   first_run ran' row' h same =
       ap (λ (r : Ran). runs_on limit l (at r row)) (sym e) ∙ (first_along ran' row' h same).rest
 
@@ -449,6 +450,6 @@ module _ (l : Lines) (m : Machine) (limit : ℕ) (row : List ℕ) (opens : row_r
       → ran' ≡ ran_on ran k l.ready
       → row' ≡ row
       → k ≡ limit
-      → runs_on limit l (at (empty_run 0 m) row) ≡ at ran' row'
+      → runs_on limit l (at (empty_run done m) row) ≡ at ran' row'
   first_whole ran' row' h same all =
       first_run ran' row' h same ∙ no_more (limit - k) l (at ran' row') (omega (arith, all))

@@ -20,6 +20,9 @@ use Rattle.registers.specs.Rings.{ring_within, ring_next}
 use Rattle.wd.specs.Machines.{valid_of}
 use Rattle.wd.specs.Turns.{sees_of, act_applied, cell_turn}
 use Rattle.wd.specs.Rows.{row_refusal, under, refused_at, done_by, byte_time, byte_time_row}
+use Rattle.refusals.specs.Numbers.{Outcome, done}
+use Rattle.refusals.proofs.Outcomes.{refused-done}
+use Rattle.std.specs.Result.{is_ok}
 
 -- ---- the ring
 
@@ -83,22 +86,22 @@ turned_ring m l cell = next_length m.ring
 
 -- ---- the row
 
-pub open_row : (m : Machine) (size : ℕ) → row_refusal m size ≡ 0 → (valid_of m ≡ true) × (size ≡ m.ring.length)
+pub open_row : (m : Machine) (size : ℕ) → row_refusal m size ≡ done → (valid_of m ≡ true) × (size ≡ m.ring.length)
 unfolding row_refusal
 open_row m size =
-    by_cond (λ n. n ≡ 0 → (valid_of m ≡ true) × (size ≡ m.ring.length)) (valid_of m)
+    by_cond (λ (o : Outcome). o ≡ done → (valid_of m ≡ true) × (size ≡ m.ring.length)) (valid_of m)
     (λ v.
-    by_cond (λ n. n ≡ 0 → (valid_of m ≡ true) × (size ≡ m.ring.length)) (eqb size m.ring.length)
+    by_cond (λ (o : Outcome). o ≡ done → (valid_of m ≡ true) × (size ≡ m.ring.length)) (eqb size m.ring.length)
     (λ e h. (v, eqb-true _ _ e))
-    (λ e h. absurd (omega arith)))
-    (λ v h. absurd (omega arith))
+    (λ e h. absurd (refused-done _ h)))
+    (λ v h. absurd (refused-done _ h))
 
-pub row_open : (m : Machine) (size : ℕ) → valid_of m ≡ true → size ≡ m.ring.length → row_refusal m size ≡ 0
+pub row_open : (m : Machine) (size : ℕ) → valid_of m ≡ true → size ≡ m.ring.length → row_refusal m size ≡ done
 unfolding row_refusal
 row_open m size v e = simp (v, eq-eqb _ _ e)
 
 -- the cell under the head is one of the row's
-pub row_inside : (m : Machine) (size : ℕ) → row_refusal m size ≡ 0 → m.ring.position < size
+pub row_inside : (m : Machine) (size : ℕ) → row_refusal m size ≡ done → m.ring.position < size
 row_inside m size e =
     let h = open_row m size e in
     omega (arith, h.1, (valid_ring m h.0).inside)
@@ -107,7 +110,7 @@ row_inside m size e =
 pub row_length : (m : Machine) (l : Lines) (row : List ℕ) → length (byte_time_row m l row) ≡ length row
 unfolding byte_time_row
 row_length m l row =
-    by_cond (λ (q : List ℕ). length q ≡ length row) (eqb (row_refusal m (length row)) 0)
+    by_cond (λ (q : List ℕ). length q ≡ length row) (is_ok (row_refusal m (length row)))
     (λ e.
     by_cond (λ (q : List ℕ). length q ≡ length row) (ltb 511 (under m row)) (λ f. refl)
     (λ f. length-set row m.ring.position (cell_turn m l (under m row)).cell))
@@ -116,13 +119,13 @@ row_length m l row =
 -- and what passed may pass again
 pub pass_open :
     (m : Machine) (l : Lines) (row : List ℕ)
-    → row_refusal m (length row) ≡ 0
-    → row_refusal (byte_time m l row).machine (length (byte_time_row m l row)) ≡ 0
+    → row_refusal m (length row) ≡ done
+    → row_refusal (byte_time m l row).machine (length (byte_time_row m l row)) ≡ done
 unfolding byte_time refused_at done_by
 pass_open m l row e =
-    by_cond (λ (p : Passed). row_refusal p.machine (length (byte_time_row m l row)) ≡ 0) (eqb (row_refusal m (length row)) 0)
+    by_cond (λ (p : Passed). row_refusal p.machine (length (byte_time_row m l row)) ≡ done) (is_ok (row_refusal m (length row)))
     (λ t.
-    by_cond (λ (p : Passed). row_refusal p.machine (length (byte_time_row m l row)) ≡ 0) (ltb 511 (under m row))
+    by_cond (λ (p : Passed). row_refusal p.machine (length (byte_time_row m l row)) ≡ done) (ltb 511 (under m row))
     (λ f. row_open m _ h.0 (row_length m l row ∙ h.1))
     (λ f. row_open (cell_turn m l (under m row)).machine _ (turn_valid m l (under m row) h.0) turned_length))
     (λ t. row_open m _ h.0 (row_length m l row ∙ h.1))

@@ -6,5 +6,6 @@ pub mod Reads
 pub mod Loads
 pub mod Turns
 pub mod Rows
+pub mod Counts
 pub mod Stretches
 pub mod Transfers

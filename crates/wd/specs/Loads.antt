@@ -1,18 +1,18 @@
 -- Loading a register, and what an accepted command does at once: document 01, "Registers and commands", and document 02, i. Of all
 -- calls the load alone asks the chip. Assumes nothing.
-use Rattle.std.specs.Prelude.{cond, not, ◌&&◌, ℕ, eqb}
-use Rattle.command.specs.Commands.{class_of, decoded_of, decode_refusal}
+use Rattle.std.specs.Prelude.{cond, not, ◌&&◌, ℕ, eqb, is_ok, Option, Some, None}
+use Rattle.command.specs.Commands.{class_of, decoded_of}
 use Rattle.command.specs.Orders.{order_of}
 use Rattle.command.specs.declared.Command.{Command}
-use Rattle.command.specs.declared.Decoded.{Decoded}
-use Rattle.command.specs.declared.Decoded.TheVariants.{Taken, NoCommand}
 use Rattle.activity.specs.Limits.{busy_in}
 use Rattle.registers.specs.declared.Lines.{Lines}
 use Rattle.wd.specs.declared.Machine.{Machine}
-use Rattle.wd.specs.declared.Loaded.{Loaded}
+use Rattle.wd.specs.declared.Called.{Called}
 use Rattle.wd.specs.Machines.{valid_of}
 use Rattle.wd.specs.Reads.{with_bus}
 use Rattle.registers.specs.Registers.{load_refusal, load_regs, load_wires}
+use Rattle.refusals.specs.declared.Refusal.TheVariants as refusal
+use Rattle.refusals.specs.Numbers.{done, refused}
 use Rattle.accepting.specs.Accepting.{held_by, ends_at_once, asks_first, begin_regs, begin_wires, begin_flags, begin_head, begin_activity, begin_side}
 
 -- ---- an accepted command
@@ -35,14 +35,14 @@ command_begun m l b command =
     }
 
 -- 7: "the byte is no command"
-unfoldable pub command_answer : Machine → Lines → ℕ → Decoded → Loaded
-command_answer m l b (Taken command) = record { number = 0; machine = command_begun m l b command }
-command_answer m l b NoCommand = record { number = decode_refusal NoCommand; machine = m }
+unfoldable pub command_answer : Machine → Lines → ℕ → Option Command → Called
+command_answer m l b (Some command) = record { outcome = done; machine = command_begun m l b command }
+command_answer m l b None = record { outcome = refused refusal.Command; machine = m }
 
 -- a refused load: "as given"
-unfoldable pub load_register : Machine → Lines → ℕ → ℕ → Loaded
+unfoldable pub load_register : Machine → Lines → ℕ → ℕ → Called
 load_register m l number b =
-    cond (eqb (load_refusal (valid_of m) (busy_in m.activity) number b) 0)
+    cond (is_ok (load_refusal (valid_of m) (busy_in m.activity) number b))
     (cond (eqb number 0) (command_answer m l b (decoded_of m.chip b))
-    (record { number = 0; machine = with_bus m (load_regs m.regs number b) (load_wires m.wires number) }))
-    (record { number = load_refusal (valid_of m) (busy_in m.activity) number b; machine = m })
+    (record { outcome = done; machine = with_bus m (load_regs m.regs number b) (load_wires m.wires number) }))
+    (record { outcome = load_refusal (valid_of m) (busy_in m.activity) number b; machine = m })

@@ -1,13 +1,14 @@
 -- Power-on, and the machines that refusal 2 lets through. Assumes nothing.
-use Rattle.std.specs.Prelude.{Bool, true, false, cond, ◌&&◌, ℕ}
+use Rattle.std.specs.Prelude.{Bool, true, false, cond, ◌&&◌, ℕ, None}
 use Rattle.command.specs.declared.Chip.{Chip}
 use Rattle.command.specs.declared.Command.TheVariants.{ForceInterrupt}
-use Rattle.command.specs.declared.SideAsked.TheVariants.{Any}
 use Rattle.activity.specs.Limits.{counts_within}
 use Rattle.activity.specs.declared.Activity.TheVariants.{Idle}
 use Rattle.registers.specs.declared.Flags.{Flags}
 use Rattle.wd.specs.declared.Machine.{Machine}
-use Rattle.wd.specs.declared.Started.{Started}
+use Rattle.wd.specs.declared.Called.{Called}
+use Rattle.refusals.specs.declared.Refusal.TheVariants as refusal
+use Rattle.refusals.specs.Numbers.{done, refused}
 use Rattle.scan.specs.Rows.{shortest_row, length_within}
 use Rattle.registers.specs.Rings.{ring_within}
 
@@ -34,13 +35,13 @@ fresh_machine length mfm chip =
       flags = clear_flags;
       head = record { loaded = false; inward = false };
       past = record { ready = false; index = false };
-      order = record { command = ForceInterrupt; byte = 0; inward = false; side = Any; ibm = true };
+      order = record { command = ForceInterrupt; byte = 0; inward = false; side = None; ibm = true };
       activity = Idle;
     }
 
 -- 1: "a length outside .. at power-on": "power-on FM machine of 2,048", of the chip that was named
-unfoldable pub power_on : ℕ → Bool → Chip → Started
+unfoldable pub power_on : ℕ → Bool → Chip → Called
 power_on length mfm chip =
     cond (length_within length)
-    (record { number = 0; machine = fresh_machine length mfm chip })
-    (record { number = 1; machine = fresh_machine shortest_row false chip })
+    (record { outcome = done; machine = fresh_machine length mfm chip })
+    (record { outcome = refused refusal.Length; machine = fresh_machine shortest_row false chip })

@@ -1,5 +1,5 @@
 -- Reading a register. Assumes nothing.
-use Rattle.std.specs.Prelude.{cond, ◌&&◌, ℕ, eqb}
+use Rattle.std.specs.Prelude.{cond, ◌&&◌, ℕ, is_ok}
 use Rattle.registers.specs.declared.Regs.{Regs}
 use Rattle.registers.specs.declared.Wires.{Wires}
 use Rattle.registers.specs.declared.Lines.{Lines}
@@ -9,6 +9,7 @@ use Rattle.wd.specs.declared.Read.{Read}
 use Rattle.wd.specs.Machines.{valid_of}
 use Rattle.registers.specs.Status.{type1_of, type2_of, status_from}
 use Rattle.activity.specs.Limits.{busy_in}
+use Rattle.refusals.specs.Numbers.{done}
 use Rattle.registers.specs.Registers.{read_refusal, read_byte, read_wires}
 
 -- the status byte of a machine under these lines; looking at it changes nothing
@@ -38,10 +39,10 @@ with_bus m r w =
 -- a refused read: "as given, byte 0"
 unfoldable pub read_register : Machine → Lines → ℕ → Read
 read_register m l number =
-    cond (eqb (read_refusal (valid_of m) number) 0)
+    cond (is_ok (read_refusal (valid_of m) number))
     (record {
-      number = 0;
+      outcome = done;
       byte = read_byte m.regs (status_of m l) number;
       machine = with_bus m m.regs (read_wires m.wires number);
     })
-    (record { number = read_refusal (valid_of m) number; byte = 0; machine = m })
+    (record { outcome = read_refusal (valid_of m) number; byte = 0; machine = m })

@@ -32,7 +32,7 @@ unfoldable pub ran_on : Ran → ℕ → Bool → Ran
 ran_on ran passed ready =
     cond (eqb passed 0) ran
     (record {
-      number = ran.number;
+      outcome = ran.outcome;
       tally = record {
         passed = ran.tally.passed + passed;
         inward = ran.tally.inward;

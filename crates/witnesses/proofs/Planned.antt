@@ -18,7 +18,7 @@ use Rattle.command.specs.Bits.{side_asked, ibm_lengths}
 use Rattle.command.specs.Commands.{decoded_of}
 use Rattle.command.specs.declared.Chip.{Chip}
 use Rattle.command.specs.declared.Command.TheVariants.{ReadSector}
-use Rattle.command.specs.declared.Decoded.TheVariants.{Taken}
+use Rattle.std.specs.Prelude.{Some}
 use Rattle.wd.specs.declared.Machine.{Machine}
 use Rattle.wd.specs.Loads.{load_register}
 use Rattle.reachable.proofs.Samples.{sample_length, on}
@@ -38,6 +38,7 @@ use Rattle.witnesses.proofs.LastBusy.{ends_after}
 use Rattle.witnesses.proofs.Polling.{polling, polling_alone, polling_ends, polling_serves}
 use Rattle.witnesses.proofs.ServesAll.{serves_all}
 use Rattle.witnesses.proofs.Plans.{Plan, asks_at, writer, begun_by, left_by, again, flagged_in, flags_of, Summary, summary, planned, Computed}
+use Rattle.refusals.specs.Numbers.{done}
 
 flagged_at :
     (p many k : ℕ) (row : List ℕ)
@@ -89,15 +90,15 @@ module _ (x : Plan) (c : Computed x) where
       (ap (λ (e : Summary). e.goes) ended)
       (ap (λ (e : Summary). e.busy) ended)
 
-  accepted_again : (load_register (left_by x).machine on 0 x.byte_then).number ≡ 0
+  accepted_again : (load_register (left_by x).machine on 0 x.byte_then).outcome ≡ done
   unfolding summary step_from at
-  accepted_again = ap (λ (e : Summary). e.number) ended
+  accepted_again = ap (λ (e : Summary). e.outcome) ended
 
   same_chip : (left_by x).machine.chip ≡ x.machine.chip
   unfolding summary step_from at
   same_chip = ap (λ (e : Summary). e.chip) ended
 
-  reads_then : decoded_of (left_by x).machine.chip x.byte_then ≡ Taken ReadSector
+  reads_then : decoded_of (left_by x).machine.chip x.byte_then ≡ Some ReadSector
   reads_then = ap (λ (chip : Chip). decoded_of chip x.byte_then) same_chip ∙ c.reads
 
   -- demand 3: the Read Sector ends by itself

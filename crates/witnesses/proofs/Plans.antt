@@ -12,7 +12,7 @@ use Rattle.command.specs.Bits.{is_multiple, settles_first, side_asked, ibm_lengt
 use Rattle.command.specs.declared.Chip.{Chip}
 use Rattle.command.specs.Commands.{decoded_of}
 use Rattle.command.specs.declared.Command.TheVariants.{ReadSector, WriteSector}
-use Rattle.command.specs.declared.Decoded.TheVariants.{Taken}
+use Rattle.std.specs.Prelude.{Some}
 use Rattle.activity.specs.Limits.{busy_in}
 use Rattle.fields.specs.Rings.{cells_of}
 use Rattle.wd.specs.declared.Machine.{Machine}
@@ -25,6 +25,7 @@ use Rattle.in_time.proofs.Scenes.{scene_by}
 use Rattle.served.specs.Served.{loads_dr, reads_dr}
 use Rattle.witnesses.proofs.Walks.{Walk, step_from, walked}
 use Rattle.witnesses.proofs.ServesAll.{serves_from}
+use Rattle.refusals.specs.Numbers.{Outcome, done}
 
 -- a machine, its Write Sector and its Read Sector, the track with its ID from cell p on, the byte time before which the first
 -- of 128 bytes is loaded and that in which the first data cell passes, the last byte time in which the write is Busy, and the
@@ -76,7 +77,7 @@ unfoldable pub flags_of : Bool → ℕ
 flags_of mfm = cond mfm 3 1
 
 -- what is asked of the machine and the row as the write ends: Busy before its last byte time and after it, the error bits, TR
--- and SR, the Read Sector's number, a row of the ring's length with low cells, and the bytes taken
+-- and SR, how the Read Sector's load goes, a row of the ring's length with low cells, and the bytes taken
 pub record Summary : Type 0 where
   pub goes : Bool
   pub busy : Bool
@@ -87,7 +88,7 @@ pub record Summary : Type 0 where
   pub chip : Chip
   pub tr : ℕ
   pub sr : ℕ
-  pub number : ℕ
+  pub outcome : Outcome
   pub whole : Bool
   pub cells : Bool
   pub took : List ℕ
@@ -106,7 +107,7 @@ summary x w =
       chip = found.machine.chip;
       tr = found.machine.regs.tr;
       sr = found.machine.regs.sr;
-      number = (load_register found.machine on 0 x.byte_then).number;
+      outcome = (load_register found.machine on 0 x.byte_then).outcome;
       whole = eqb (length found.row) found.machine.ring.length;
       cells = all_low found.row;
       took = over.took;
@@ -125,7 +126,7 @@ planned x =
       chip = x.machine.chip;
       tr = x.machine.regs.tr;
       sr = x.machine.regs.sr;
-      number = 0;
+      outcome = done;
       whole = true;
       cells = true;
       took = x.bytes;
@@ -134,12 +135,12 @@ planned x =
 -- what computes
 pub record Computed (x : Plan) : Type 0 where
   pub dr : ltb x.machine.regs.dr 256 ≡ true
-  pub writes : decoded_of x.machine.chip x.byte ≡ Taken WriteSector
+  pub writes : decoded_of x.machine.chip x.byte ≡ Some WriteSector
   pub single : is_multiple x.byte ≡ false
-  pub accepted : (load_register x.machine on 0 x.byte).number ≡ 0
+  pub accepted : (load_register x.machine on 0 x.byte).outcome ≡ done
   pub ended : summary x (walked (writer x) (begun_by x) x.last) ≡ planned x
   pub serves : serves_from loads_dr reads_dr (writer x) (suc x.last) 0 (begun_by x) ≡ true
-  pub reads : decoded_of x.machine.chip x.byte_then ≡ Taken ReadSector
+  pub reads : decoded_of x.machine.chip x.byte_then ≡ Some ReadSector
   pub same_m : is_multiple x.byte_then ≡ is_multiple x.byte
   pub same_e : settles_first x.byte_then ≡ settles_first x.byte
   pub same_side : side_asked x.machine.chip x.byte_then ≡ side_asked x.machine.chip x.byte

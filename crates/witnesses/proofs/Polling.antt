@@ -4,7 +4,6 @@ use mathlib.Core.Path.{◌≡◌, refl, sym, ap, ◌∙◌, subst}
 use mathlib.Core.Bool.{Bool, true, false, cond, and-true, and-false, true≢false}
 use mathlib.Core.List.{[], ◌∷◌}
 use Prim.Native.Nat.{ℕ, zero, suc}
-use lib.Dec.{eqb}
 use Rattle.common.proofs.Cases.{by_cond}
 use Rattle.activity.specs.Limits.{busy_in}
 use Rattle.registers.specs.declared.Lines.{Lines}
@@ -20,12 +19,13 @@ use Rattle.hosts.proofs.Views.{stays_valid}
 use Rattle.in_time.proofs.Scenes.{reader}
 use Rattle.served.specs.Served.{loads_dr, reads_dr, OnDrq, ServesEach}
 use Rattle.served.proofs.DrCalls.{read_leaves, read_on}
+use Rattle.std.specs.Result.{is_ok}
 
 -- with DRQ off a read of DR changes nothing
 read_idle : (m : Machine) (l : Lines) → m.wires.drq ≡ false → (read_register m l 3).machine ≡ m
 unfolding read_register read_wires
 read_idle m l off =
-    by_cond (λ (q : Read). q.machine ≡ m) (eqb (read_refusal (valid_of m) 3) 0)
+    by_cond (λ (q : Read). q.machine ≡ m) (is_ok (read_refusal (valid_of m) 3))
     (λ taken i.
     with_bus m m.regs
     (record { drq = (and-false m.wires.drq ∙ sym off) i; intrq = and-true m.wires.intrq i }))

@@ -21,7 +21,7 @@ use Rattle.command.specs.Times.{step_time_of, settle_time_of}
 use Rattle.command.specs.Bits.{loads_head, settles_first, is_multiple, verifies_track, side_of, side_asked, ibm_lengths, mark_written}
 use Rattle.command.specs.declared.Chip.TheVariants.{Wd1793, Wd1797}
 use Rattle.command.specs.declared.Command.TheVariants.{WriteSector}
-use Rattle.command.specs.declared.Decoded.TheVariants.{Taken}
+use Rattle.std.specs.Prelude.{Some}
 use Rattle.activity.specs.Acts.{taken_of}
 use Rattle.activity.specs.Limits.{busy_in, scan_within, counts_within}
 use Rattle.activity.specs.declared.Deed.TheVariants.{Nothing, Matched, Ask}
@@ -49,6 +49,7 @@ use Rattle.served.specs.Served.{loads_dr, reads_dr}
 use Rattle.witnesses.proofs.Walks.{step_from, walked}
 use Rattle.witnesses.proofs.ServesAll.{on_drq, serves_from}
 use Rattle.witnesses.proofs.Plans.{Plan, summary, flagged_in, flags_of, Computed}
+use Rattle.refusals.specs.Numbers.{done}
 
 -- FM IDs of track 0, sector 1 and 128 bytes, of either side
 abbrev pub id_side_0 : List ℕ
@@ -143,8 +144,8 @@ pub record LastIn (s : Scene) (n : ℕ) : Type 0 where
 
 -- the ID ends with byte time 6; the second after it asks, the tenth finds DRQ on
 pub record Unserved : Type 0 where
-  pub writes : decoded_of unserved.machine.chip unserved.byte ≡ Taken WriteSector
-  pub accepted : (load_register unserved.machine on 0 unserved.byte).number ≡ 0
+  pub writes : decoded_of unserved.machine.chip unserved.byte ≡ Some WriteSector
+  pub accepted : (load_register unserved.machine on 0 unserved.byte).outcome ≡ done
   pub ends : LastIn unserved 16
   pub searches : Gives (deed_at nobody (loaded unserved)) Nothing (count 0 6)
   pub finds : deed_at nobody (loaded unserved) 6 ≡ Matched false

@@ -10,6 +10,7 @@ use Rattle.activity.specs.declared.Activity.TheVariants.{Idle, Preamble, Put}
 use Rattle.activity.specs.declared.Deed.{Deed}
 use Rattle.activity.specs.declared.Deed.TheVariants.{Nothing, Written, Ask, Late, Take}
 use Rattle.search.specs.Search.{after_record}
+use Rattle.writing.specs.declared.Places.{Places}
 
 -- "FM writes from 12: six 00, flagged mark; MFM from 23: twelve 00, three flagged A1, mark." Byte times after the ID's last
 -- cell are numbered from 1; the last that is kept, the last 00, and the mark's:
@@ -21,6 +22,9 @@ last_zero mfm = last_kept mfm + cond mfm 12 6
 
 unfoldable pub mark_place : Bool → ℕ
 mark_place mfm = last_zero mfm + lead_of mfm + 1
+
+abbrev pub places_of : Bool → Places
+places_of mfm = record { kept = last_kept mfm; zero = last_zero mfm; mark = mark_place mfm }
 
 -- a mark's byte, flagged in FM
 unfoldable pub mark_cell : Bool → ℕ → ℕ

@@ -2,34 +2,40 @@
 #![tactic(auto)]
 
 ghost use Rattle.std.specs.Prelude.{◌≡◌, ◌≤◌};
-ghost use Rattle.writing.specs.Writing.{last_kept, last_zero, mark_place, mark_cell, preamble_cell, preamble_next, preamble_deed, preamble_turn, put_cell};
+ghost use Rattle.writing.specs.Writing.{places_of, mark_cell, preamble_cell, preamble_next, preamble_deed, preamble_turn, put_cell};
 
-use activity::{Act, Activity, Deed, Seen, taken};
+use activity::{Act, Activity, Deed, Seen};
 use search::again;
 
-// Byte times after the ID's last cell, numbered from 1: up to this one the cells are kept.
-#[tactic(auto, unfolding(crate::specs::Writing::last_kept))]
-fn last_kept(mfm: bool) -> u16
-    ensures { result ≡ last_kept mfm }
-{
-    if mfm { 22 } else { 11 }
+// Byte times after the ID's last cell, numbered from 1.
+#[derive(Clone, Copy)]
+struct Places {
+    // Up to this one the cells are kept,
+    kept: u16,
+    // up to this one they become 00,
+    zero: u16,
+    // and this one becomes the mark.
+    mark: u16,
 }
 
-// Up to this one they become 00.
-#[tactic(auto, unfolding(crate::specs::Writing::last_zero, crate::specs::Writing::last_kept))]
-fn last_zero(mfm: bool) -> u16
-    ensures { result ≡ last_zero mfm }
-{
-    if mfm { 34 } else { 17 }
-}
+const FM: Places = Places {
+    kept: 11,
+    zero: 17,
+    mark: 18,
+};
 
-// And this one becomes the mark.
+const MFM: Places = Places {
+    kept: 22,
+    zero: 34,
+    mark: 38,
+};
+
 #[tactic(auto, unfolding(crate::specs::Writing::mark_place, crate::specs::Writing::last_zero, crate::specs::Writing::last_kept, scan::specs::Marks::lead_of))]
-fn mark_place(mfm: bool) -> u16
-    ensures value { result ≡ mark_place mfm }
-    ensures upper_bound { result ≤ 38 }
+fn places_in(mfm: bool) -> Places
+    ensures value { result ≡ places_of mfm }
+    ensures upper_bound { result.mark ≤ 38 }
 {
-    if mfm { 38 } else { 18 }
+    if mfm { MFM } else { FM }
 }
 
 #[tactic(auto, unfolding(crate::specs::Writing::mark_cell))]
@@ -44,13 +50,14 @@ fn mark_cell(mfm: bool, byte: u8) -> u16
 fn preamble_cell(mfm: bool, n: u16, mark: u8, cell: u16) -> u16
     ensures { result ≡ preamble_cell mfm n mark cell }
 {
-    if n <= last_kept(mfm) {
+    let places = places_in(mfm);
+    if n <= places.kept {
         return cell;
     }
-    if n <= last_zero(mfm) {
+    if n <= places.zero {
         return 0x00;
     }
-    if n < mark_place(mfm) {
+    if n < places.mark {
         return scan::SYNC;
     }
     mark_cell(mfm, mark)
@@ -60,7 +67,7 @@ fn preamble_cell(mfm: bool, n: u16, mark: u8, cell: u16) -> u16
 fn preamble_next(mfm: bool, left: u16, n: u16, mark: u8) -> Activity
     ensures { result ≡ preamble_next mfm left n mark }
 {
-    if n < mark_place(mfm) {
+    if n < places_in(mfm).mark {
         Activity::Preamble(left, n as u8)
     } else {
         Activity::Put(left, scan::mark_crc(mfm, mark))
@@ -85,11 +92,7 @@ pub fn preamble(s: Seen, mark: u8, left: u16, passed: u8) -> Act
 {
     let n = passed as u16 + 1;
     if (n == 10) & s.drq {
-        return Act {
-            next: Activity::Idle,
-            deed: Deed::Late,
-            cell: s.cell,
-        };
+        return s.pass(Activity::Idle, Deed::Late);
     }
     Act {
         next: preamble_next(s.mfm, left, n, mark),
@@ -104,7 +107,7 @@ pub fn put(s: Seen, multiple: bool, left: u16, crc: u16) -> Act
     ensures { result ≡ put_cell s multiple left crc }
 {
     if 4 <= left {
-        let byte = taken(s);
+        let byte = s.taken();
         return Act {
             next: Activity::Put(left - 1, crc::step(crc, byte)),
             deed: Deed::Take(5 <= left),

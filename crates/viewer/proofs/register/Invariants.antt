@@ -6,6 +6,3 @@ use Rattle.viewer.proofs.register.Given as goal
 abbrev pub invariant-loop-at : goal.invariant-loop-at
 invariant-loop-at l =
     register_over l.side l.register l.at (l.to - l.at) ≡ register_over l.side l.crc l.from (l.to - l.from)
-
-abbrev pub decreases-loop-at : goal.decreases-loop-at
-decreases-loop-at l = l.to - l.at

@@ -1,15 +1,37 @@
--- What is still to be moved stands where it stood: so one byte more is moved.
-use Rattle.std.proofs.Common.{List, ℕ, ◌+◌, ap, ◌∙◌, refl, arith, rules, add-one, get_or}
-use Rattle.common.proofs.Laid.{laid_out, laid_more}
+-- What is copied to the front is what was to be moved there, and all else stays.
+use Rattle.std.proofs.Common.{◌≡◌, List, ℕ, ◌+◌, ◌≤◌, ◌<◌, length, get_or, sym, ◌∙◌, arith}
+use Rattle.std.proofs.lemmas.Grind.{same_number_lists}
+use Rattle.std.specs.List.{CopiedTo, SameFrom}
+use Rattle.common.proofs.Laid.{laid_in, laid_out, laid_length, first_places}
+use Rattle.list.specs.Input.{moved, input_left}
 use Rattle.list.proofs.input.keep.Goals as goal
+use native.Mathlib.Nat.{sub-zero}
+use native.Mathlib.Decide.{dec_lt}
 
-pub loop-i-preserved : goal.loop-i-preserved
-loop-i-preserved c =
-    let laying = c.loop-i.invariant.1 in
-    let from = c.args.from in
-    let i = c.loop-i.i in
-    let first = c.args.buffer.now in
-    let still =
-    ap (λ (l : List ℕ). get_or l (from + i) 0) laying
-    ∙ laid_out first (λ k. k) (λ k. get_or first (from + k) 0) i (from + i) 0 (λ k l e. omega arith) in
-    (search rules, laid_more _ _ _ _ _ _ _ _ laying (add-one _) refl still)
+copied :
+    (before after : List ℕ) (from n : ℕ)
+    → n ≤ length before
+    → length after ≡ length before
+    → CopiedTo before after from 0 n
+    → SameFrom before after (0 + n)
+    → after ≡ moved before from n
+copied before after from n fits size front rest =
+    same_number_lists after (moved before from n) (size ∙ sym (laid_length before place content n)) (λ k h. by k (dec_lt k n))
+  where
+    place : ℕ → ℕ
+    place i = i
+
+    content : ℕ → ℕ
+    content i = get_or before (from + i) 0
+
+    by : (k : ℕ) → Dec (k < n) → get_or after k 0 ≡ get_or (moved before from n) k 0
+    by k (yes l) =
+        rw sub-zero at (front k 0 (omega arith) (omega arith))
+        ∙ sym (laid_in before place content n (first_places before n fits) k 0 l)
+    by k (no l) = rest k 0 (omega arith) ∙ sym (laid_out before place content n k 0 (λ i h e. omega arith))
+
+pub returns-clause-buffer_after : goal.returns-clause-buffer_after
+unfolding input_left
+returns-clause-buffer_after c =
+    let copy = c.copy_within.ensures in
+    rw c.in_ok-taken.was (copied _ _ _ _ (omega arith) copy.len copy.by_index.0 copy.by_index.2)

@@ -9,45 +9,41 @@ pub run_on-requires : goal.run_on-requires
 run_on-requires c =
     let a = c.args in
     let s = c.first-stretch in
-    let e = c.empty_run-start in
+    let e = c.none-start in
     let v = subst (Along a.lines a.limit (at e.result a.row.now) a.limit e.result) (sym s.ensures.value.1) (starts a.lines a.self a.limit e.result a.row.now e.ensures c.requires c.ranges.limit.fits) in
-    (v.passes, (v.room, (v.inward, v.outward)))
+    record { passes = v.passes; room = v.room }
 
-pub ran_on-requires : goal.ran_on-requires
-ran_on-requires c =
+pub stretched-behind-requires : goal.stretched-behind-requires
+stretched-behind-requires c =
     let a = c.args in
     let s = c.first-stretch in
-    let e = c.empty_run-start in
+    let e = c.none-start in
     first_fits a.lines a.self a.limit a.row.now c.requires c.ranges.limit.fits e.result e.ensures s.result s.ensures.value.0 s.ensures.upper_bound
 
 pub returns-then-stretch-limit : goal.returns-then-stretch-limit
 returns-then-stretch-limit c =
     let a = c.args in
     let s = c.first-stretch in
-    let e = c.empty_run-start in
-    let v = first_whole a.lines a.self a.limit a.row.now c.requires c.ranges.limit.fits e.result e.ensures s.result s.ensures.value.0 s.ensures.upper_bound c.ran_on.result s.new.row c.ran_on.ensures s.ensures.value.1 c.if-stretch-limit.true in
+    let e = c.none-start in
+    let b = c.stretched-behind in
+    let v = first_whole a.lines a.self a.limit a.row.now c.requires c.ranges.limit.fits e.result e.ensures s.result s.ensures.value.0 s.ensures.upper_bound b.result s.new.row b.ensures s.ensures.value.1 c.if-stretch-limit.true in
     (sym (ap (λ (r : Run). r.ran) v), sym (ap (λ (r : Run). r.row) v))
-
-pub ran_on-requires-2 : goal.ran_on-requires-2
-ran_on-requires-2 c =
-    let a = c.args in
-    let s = c.first-stretch in
-    let e = c.empty_run-start in
-    first_fits a.lines a.self a.limit a.row.now c.requires c.ranges.limit.fits e.result e.ensures s.result s.ensures.value.0 s.ensures.upper_bound
 
 pub run_on-requires-2 : goal.run_on-requires-2
 run_on-requires-2 c =
     let a = c.args in
     let s = c.first-stretch in
-    let e = c.empty_run-start in
-    let v = first_along a.lines a.self a.limit a.row.now c.requires c.ranges.limit.fits e.result e.ensures s.result s.ensures.value.0 s.ensures.upper_bound c.ran_on-2.result s.new.row c.ran_on-2.ensures s.ensures.value.1 in
-    (v.passes, (v.room, (v.inward, v.outward)))
+    let e = c.none-start in
+    let b = c.stretched-behind in
+    let v = first_along a.lines a.self a.limit a.row.now c.requires c.ranges.limit.fits e.result e.ensures s.result s.ensures.value.0 s.ensures.upper_bound b.result s.new.row b.ensures s.ensures.value.1 in
+    record { passes = v.passes; room = v.room }
 
 pub returns : goal.returns
 returns c =
     let a = c.args in
     let s = c.first-stretch in
-    let e = c.empty_run-start in
+    let e = c.none-start in
+    let b = c.stretched-behind in
     let o = c.run_on-2 in
-    let v = first_run a.lines a.self a.limit a.row.now c.requires c.ranges.limit.fits e.result e.ensures s.result s.ensures.value.0 s.ensures.upper_bound c.ran_on-2.result s.new.row c.ran_on-2.ensures s.ensures.value.1 in
+    let v = first_run a.lines a.self a.limit a.row.now c.requires c.ranges.limit.fits e.result e.ensures s.result s.ensures.value.0 s.ensures.upper_bound b.result s.new.row b.ensures s.ensures.value.1 in
     (o.ensures.0 ∙ sym (ap (λ (r : Run). r.ran) v), o.ensures.1 ∙ sym (ap (λ (r : Run). r.row) v))

@@ -1,2 +1,0 @@
--- What the proofs of `activity` share.
-pub mod Arms

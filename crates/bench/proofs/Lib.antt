@@ -1,2 +1,0 @@
--- What the proofs of `bench` share.
-pub mod Laws
