@@ -92,7 +92,7 @@ impl Acceptance {
             class: command::class_of(command),
             held,
             ends,
-            asks: matches!(command, Command::WriteTrack) & !ends,
+            asks: (command == Command::WriteTrack) & !ends,
         }
     }
 

@@ -24,7 +24,8 @@ const LAST_OF_WINDOW: u8 = LONGEST_WINDOW - 1;
 const LAST_PREAMBLE: u8 = 37;
 
 // What a byte time sees: density, index pulse, the ring's last cell, lines, wires, registers and the cell that passes. The order
-// stands beside it and not in it, since most byte times are made from what is seen alone.
+// stands beside it and not in it, since most byte times are made from what is seen alone. Density is a bool here and in all crates,
+// since the public calls, the definitions and the demands take it so (`wd:power_on`).
 #[derive(Clone, Copy)]
 pub struct Seen {
     pub mfm: bool,
@@ -126,7 +127,7 @@ impl Seen {
         if self.drq { 0x00 } else { self.dr }
     }
 
-    // The act that leaves the cell as it is,
+    // The act that leaves the cell as it is.
     pub fn pass(self, next: Activity, deed: Deed) -> Act
         ensures { result ≡ pass self next deed }
     {
@@ -137,7 +138,7 @@ impl Seen {
         }
     }
 
-    // and the one in which nothing happens besides.
+    // The act that leaves the cell as it is and in which nothing happens besides.
     pub fn go_on(self, next: Activity) -> Act
         ensures { result ≡ pass self next Deed.Nothing }
     {
@@ -169,6 +170,7 @@ pub fn within(activity: Activity) -> bool
     ensures { result ≡ counts_within activity }
 {
     match activity {
+        // Not one arm with Stop: that costs four instructions of a byte delivered.
         Activity::Seek(left) => left <= SETTLING_MFM,
         Activity::Stop(left) => left <= SETTLING_MFM,
         Activity::Settle(left) => left <= SETTLING_MFM,

@@ -1,9 +1,10 @@
-// The numbers of an answer, in hexadecimal. `{:04X}` prints the same, but takes longer for one number than for another, and
-// `./speed` tells what a call costs by what two answers differ in.
+// The numbers of an answer, in hexadecimal. `./speed` tells what a call costs by how much two runs differ, so that no number may
+// take longer to print than another one; by `{:04X}` some do. Rows of cells and what the viewer gives are printed by `{:04X}`,
+// since nothing times them.
 ghost use Rattle.std.specs.Prelude.{◌≤◌};
 
+use std::fmt;
 use std::fmt::{Display, Formatter};
-use std::{fmt, str};
 
 // The last so many hexadecimal digits of a number.
 #[derive(Clone, Copy)]
@@ -34,7 +35,9 @@ pub fn word(number: u16) -> Hex {
 impl Display for Hex {
     fn fmt<W: fmt::Write>(&self, f: &mut Formatter<W>) -> fmt::Result {
         let all = text::hex(self.number);
-        let last = str::from_utf8(&all[4 - self.digits..]).map_err(|_| fmt::Error)?;
-        f.write_str(last)
+        for digit in &all[4 - self.digits..] {
+            f.write_char(char::from(*digit))?;
+        }
+        Ok(())
     }
 }

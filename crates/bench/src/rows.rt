@@ -37,6 +37,66 @@ fn gap(mfm: bool) -> u16
     if mfm { 0x004E } else { 0x00FF }
 }
 
+// The places of so many cells of a row from one on. One past its present length is an error of the script.
+fn places(row: &Row, place: u16, count: usize) -> Result<Range<usize>, BadLine>
+    requires { count ≤ 65535 }
+    ensures fits { IsOk result ↔ (place + count ≤ array_vec_len row.now) }
+    ensures places { IfOk result (λ r. (r.start ≡ place) × (r.end ≡ place + count)) }
+{
+    let from = place as usize;
+    let to = from + count;
+    if row.len() < to {
+        return Err(BadLine);
+    }
+    Ok(from..to)
+}
+
+// Line K.
+fn set_count(row: &mut Row, count: u16) -> Result<(), BadLine>
+    ensures fits { IsOk result ↔ (count ≤ longest_row) }
+    ensures ok { OnOk result (row.new.items ≡ take count row.old.items ++ replicate (count - array_vec_len row.old) 0) }
+    ensures err { OnErr result (row.new ≡ row.old) }
+{
+    let size = count as usize;
+    if LONGEST_ROW < size {
+        return Err(BadLine);
+    }
+    resize(row, size, 0);
+    Ok(())
+}
+
+// Line F.
+fn fill(row: &mut Row, place: u16, count: u16, cell: u16) -> Result<(), BadLine>
+    ensures fits { IsOk result ↔ (place + count ≤ array_vec_len row.old) }
+    ensures ok { OnOk result (row.new.items ≡ row_with row.old.items place (replicate count cell)) }
+    ensures err { OnErr result (row.new ≡ row.old) }
+{
+    let places = places(row, place, count as usize)?;
+    row.as_mut_slice()[places].fill(cell);
+    Ok(())
+}
+
+// Line C.
+fn set(row: &mut Row, place: u16, cells: &[u16]) -> Result<(), BadLine>
+    requires { length cells.now ≤ 65535 }
+    ensures fits { IsOk result ↔ (place + length cells.now ≤ array_vec_len row.old) }
+    ensures ok { OnOk result (row.new.items ≡ row_with row.old.items place cells.now) }
+    ensures err { OnErr result (row.new ≡ row.old) }
+{
+    let places = places(row, place, cells.len())?;
+    row.as_mut_slice()[places].copy_from_slice(cells);
+    Ok(())
+}
+
+// Line V.
+fn shown(row: &Row, place: u16, count: u16) -> Result<&[u16], BadLine>
+    ensures fits { IsOk result ↔ (place + count ≤ array_vec_len row.now) }
+    ensures ok { IfOk result (λ shown. shown.now ≡ take count (drop place row.now.items)) }
+{
+    let places = places(row, place, count as usize)?;
+    Ok(&row.as_slice()[places])
+}
+
 impl Rows {
     // Before the first line: two shortest rows.
     pub fn start() -> Rows {
@@ -77,83 +137,16 @@ impl Rows {
         }
     }
 
-    // The places of so many cells of the current row from one on. One past its present length is an error of the script.
-    fn places(&self, place: u16, count: usize) -> Result<Range<usize>, BadLine>
-        requires { count ≤ 65535 }
-        ensures fits { IsOk result ↔ (place + count ≤ array_vec_len self.now.current) }
-        ensures places { IfOk result (λ r. (r.start ≡ place) × (r.end ≡ place + count)) }
-    {
-        let from = place as usize;
-        let to = from + count;
-        if self.current.len() < to {
-            return Err(BadLine);
-        }
-        Ok(from..to)
-    }
-
-    // Line K.
-    fn set_count(&mut self, count: u16) -> Result<(), BadLine>
-        ensures fits { IsOk result ↔ (count ≤ longest_row) }
-        ensures ok { OnOk result (self.new.current.items
-            ≡ take count self.old.current.items ++ replicate (count - array_vec_len self.old.current) 0) }
-        ensures err { OnErr result (self.new.current ≡ self.old.current) }
-        ensures other { self.new.other ≡ self.old.other }
-    {
-        let size = count as usize;
-        if LONGEST_ROW < size {
-            return Err(BadLine);
-        }
-        resize(&mut self.current, size, 0);
-        Ok(())
-    }
-
-    // Line F.
-    fn fill(&mut self, place: u16, count: u16, cell: u16) -> Result<(), BadLine>
-        ensures fits { IsOk result ↔ (place + count ≤ array_vec_len self.old.current) }
-        ensures ok { OnOk result (self.new.current.items ≡ row_with self.old.current.items place (replicate count cell)) }
-        ensures err { OnErr result (self.new.current ≡ self.old.current) }
-        ensures other { self.new.other ≡ self.old.other }
-    {
-        let places = self.places(place, count as usize)?;
-        self.current.as_mut_slice()[places].fill(cell);
-        Ok(())
-    }
-
-    // Line C.
-    fn set(&mut self, place: u16, cells: &[u16]) -> Result<(), BadLine>
-        requires { length cells.now ≤ 65535 }
-        ensures fits { IsOk result ↔ (place + length cells.now ≤ array_vec_len self.old.current) }
-        ensures ok { OnOk result (self.new.current.items ≡ row_with self.old.current.items place cells.now) }
-        ensures err { OnErr result (self.new.current ≡ self.old.current) }
-        ensures other { self.new.other ≡ self.old.other }
-    {
-        let places = self.places(place, cells.len())?;
-        self.current.as_mut_slice()[places].copy_from_slice(cells);
-        Ok(())
-    }
-
-    // Line V.
-    fn shown(&self, place: u16, count: u16) -> Result<&[u16], BadLine>
-        ensures fits { IsOk result ↔ (place + count ≤ array_vec_len self.now.current) }
-        ensures ok { IfOk result (λ shown. shown.now ≡ take count (drop place self.now.current.items)) }
-    {
-        let places = self.places(place, count as usize)?;
-        Ok(&self.current.as_slice()[places])
-    }
-
     // A line that works the rows; what it shows of the current row.
     pub fn carry_out(&mut self, task: Task, line: &Line) -> Result<&[u16], BadLine> {
         match task {
-            Task::SetCount { count } => self.set_count(count)?,
-            Task::Fill { place, count, cell } => self.fill(place, count, cell)?,
+            Task::SetCount { count } => set_count(&mut self.current, count)?,
+            Task::Fill { place, count, cell } => fill(&mut self.current, place, count, cell)?,
             Task::SetCells { place } => {
-                // It is asked for only by a line that names a cell.
-                let [_, cells @ ..] = line.numbers.as_slice() else {
-                    return Err(BadLine);
-                };
-                self.set(place, cells)?;
+                let cells = line.numbers.as_slice().get(1..).unwrap_or_default();
+                set(&mut self.current, place, cells)?;
             }
-            Task::Show { place, count } => return self.shown(place, count),
+            Task::Show { place, count } => return shown(&self.current, place, count),
             Task::Swap => mem::swap(&mut self.current, &mut self.other),
         }
         Ok(&[])

@@ -37,8 +37,7 @@ impl View<'_> {
 // The number, how many cells the part has, and the cells.
 impl Display for View<'_> {
     fn fmt<W: fmt::Write>(&self, f: &mut Formatter<W>) -> fmt::Result {
-        let number = self.number;
-        let size = self.part.len();
-        write!(f, " {number:02X} {size:04X}{}", Cells(self.part))
+        let cells = Cells(self.part);
+        write!(f, " {:02X} {:04X}{cells}", self.number, self.part.len())
     }
 }

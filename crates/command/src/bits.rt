@@ -7,7 +7,7 @@ use crate::Chip;
 use scan::DataMark;
 
 // The flags of a command byte.
-#[derive(Clone, Copy)]
+#[derive(Clone, Copy, Debug, PartialEq, Eq)]
 pub enum Flag {
     // Type I: TR moves with the step (the data sheet's u).
     Update,
@@ -29,13 +29,13 @@ pub enum Flag {
     Lengths,
     // The side, of Type III too (U), on the WD1797.
     Select,
-    // Force Interrupt raises INTRQ at once (I3),
+    // Force Interrupt raises INTRQ at once (I3).
     AtOnce,
-    // at each index pulse (I2),
+    // It raises INTRQ at each index pulse (I2).
     AtIndex,
-    // when Ready goes off (I1),
+    // It raises INTRQ when Ready goes off (I1).
     AtNotReady,
-    // and when Ready comes on (I0).
+    // It raises INTRQ when Ready comes on (I0).
     AtReady,
 }
 
@@ -89,13 +89,7 @@ pub fn side_asked(chip: Chip, byte: u8) -> Option<u8>
     ensures { result ≡ side_asked chip byte }
 {
     match chip {
-        Chip::Wd1793 => {
-            if is_on(byte, Flag::Compare) {
-                Some(u8::from(is_on(byte, Flag::Side)))
-            } else {
-                None
-            }
-        }
+        Chip::Wd1793 => is_on(byte, Flag::Compare).then(|| u8::from(is_on(byte, Flag::Side))),
         Chip::Wd1797 => Some(u8::from(is_on(byte, Flag::Select))),
     }
 }

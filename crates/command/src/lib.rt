@@ -11,14 +11,14 @@ pub mod sizes;
 pub mod times;
 
 // The chip whose part the controller plays. The WD1797 has a side output.
-#[derive(Clone, Copy)]
+#[derive(Clone, Copy, Debug, PartialEq, Eq)]
 pub enum Chip {
     Wd1793,
     Wd1797,
 }
 
 // The commands, by the data sheet's names.
-#[derive(Clone, Copy)]
+#[derive(Clone, Copy, Debug, PartialEq, Eq)]
 pub enum Command {
     Restore,
     Seek,
@@ -34,7 +34,7 @@ pub enum Command {
 
 // How the controller takes a command up: it steps until a track is reached, steps once, loads the head and works there,
 // or ends what is under way.
-#[derive(Clone, Copy)]
+#[derive(Clone, Copy, Debug, PartialEq, Eq)]
 pub enum Class {
     Seeks,
     Steps,
@@ -43,7 +43,7 @@ pub enum Class {
 }
 
 // What begins once the head has settled.
-#[derive(Clone, Copy)]
+#[derive(Clone, Copy, Debug, PartialEq, Eq)]
 pub enum Job {
     Nothing,
     Verify,
@@ -143,7 +143,7 @@ pub fn job_of(command: Command) -> Job
 pub fn is_restore(command: Command) -> bool
     ensures { result ≡ is_restore command }
 {
-    matches!(command, Command::Restore)
+    command == Command::Restore
 }
 
 // The direction of a command's step, from that of the last one.

@@ -27,8 +27,7 @@ use Rattle.viewer.specs.Views.{place_of, part_cells, part_start, number_of}
 use Rattle.viewer.specs.declared.Place.{Place}
 use Rattle.picture.specs.Reader.{reader_answer, reader_room}
 use Rattle.picture.specs.declared.Answer.{Answer}
-use Rattle.std.specs.Prelude.{Option, Result}
-use Rattle.script.specs.Requests.{request_of}
+use Rattle.script.specs.Requests.{asked_by, request_of}
 use Rattle.script.specs.declared.lines.BadLine.{BadLine}
 use Rattle.script.specs.declared.lines.Line.{Line}
 use Rattle.script.specs.declared.requests.Request.{Request}
@@ -127,9 +126,10 @@ stepping_calls κs = (equation _, equation _, equation _)
 
 pub search_calls : (κs : Lfts 0)
     → OneAnswer (search.pulses.Reads.Learnt κs)
+    × OneAnswer (search.counted.Reads.Learnt κs)
     × OneAnswer (search.again.Reads.Learnt κs)
     × OneAnswer (search.search.Reads.Learnt κs)
-search_calls κs = (equation _, equation _, equation _)
+search_calls κs = (equation _, equation _, equation _, equation _)
 
 pub reading_calls : (κs : Lfts 0)
     → OneAnswer (reading.window.Reads.Learnt κs)
@@ -233,6 +233,14 @@ pub request_call : (κs : Lfts 1) (line line' : Bor Line) (r r' : Result (Option
     → script.request_of.Reads.Learnt κs (line', tt) r' e'
     → r ≡ r'
 request_call κs line line' r r' e e' same p q = p ∙ ap request_of same ∙ sym q
+
+-- and so are numbers
+pub asked_by_call : (κs : Lfts 1) (letter : Option ℕ) (numbers numbers' : Bor (List ℕ)) (r r' : Result (Option Request) BadLine) (e e' : _)
+    → numbers.now ≡ numbers'.now
+    → script.asked_by.Reads.Learnt κs (letter, (numbers, tt)) r e
+    → script.asked_by.Reads.Learnt κs (letter, (numbers', tt)) r' e'
+    → r ≡ r'
+asked_by_call κs letter numbers numbers' r r' e e' same p q = p ∙ ap (asked_by letter) same ∙ sym q
 
 -- ---- the calls that are lent a row: their input is what it holds, wherever it stands
 

@@ -1,4 +1,4 @@
--- The machines that the program tries refusal 2 with, and what the calls give for them. Assumes nothing.
+-- The machines that the program tries `Refusal.Machine` with, and what the calls give for them. Assumes nothing.
 use Rattle.std.specs.Prelude.{true, false, List, [], ◌∷◌, ℕ}
 use Rattle.command.specs.declared.Chip.TheVariants.{Wd1793}
 use Rattle.activity.specs.declared.Activity.{Activity}

@@ -1,4 +1,4 @@
--- The activities that the program tries refusal 2 with. Assumes nothing.
+-- The activities that the program tries `Refusal.Machine` with. Assumes nothing.
 use Rattle.std.specs.Prelude.{false, ℕ, ◌%◌}
 use Rattle.scan.specs.declared.Part.{Part}
 use Rattle.scan.specs.declared.Scan.TheVariants.{Gap, Field}

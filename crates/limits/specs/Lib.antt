@@ -1,3 +1,3 @@
--- The machines that the program tries refusal 2 with, and what the calls give for them.
+-- The machines that the program tries `Refusal.Machine` with, and what the calls give for them.
 pub mod Counts
 pub mod Calls

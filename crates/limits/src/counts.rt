@@ -1,4 +1,4 @@
-// The counts that refusal 2 looks at, each with an activity that holds it.
+// The counts that a machine is refused for (`Refusal::Machine`), each with an activity that holds it.
 ghost use Rattle.std.specs.Prelude.{◌≡◌};
 ghost use Rattle.limits.specs.Counts.{part_holding, activity_holding};
 

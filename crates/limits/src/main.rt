@@ -1,4 +1,4 @@
-// Prints where refusal 2 begins. For each count of each activity, and for the ring, a line has the last number that is taken
+// Prints where `Refusal::Machine` begins. For each count of each activity, and for the ring, a line has the last number that is taken
 // and the first that is refused, each with what the four calls that take a machine give. The numbers are document 01's,
 // written out here, so that one that is wrong in the code and in its definition alike shows.
 #![tactic(auto)]

@@ -12,10 +12,13 @@ use std::fmt;
 // Room for the row of the longest ring that is tried, which is one cell too long.
 const ROOM: usize = 10417;
 
-// The shortest ring.
-const SHORTEST: u16 = 2048;
+// The shortest ring, with the head at its start.
+const SHORTEST: Ring = Ring {
+    length: 2048,
+    position: 0,
+};
 
-// The ring and the activity of a machine to try, and the number in one of them that refusal 2 is to look at.
+// The ring and the activity of a machine to try, and the number in one of them for which it is to be `Refusal::Machine`.
 #[derive(Clone, Copy)]
 pub struct Tried {
     n: u16,
@@ -31,10 +34,7 @@ impl Tried {
     {
         Tried {
             n,
-            ring: Ring {
-                length: SHORTEST,
-                position: 0,
-            },
+            ring: SHORTEST,
             activity: counts::holding(count, n),
         }
     }
@@ -44,8 +44,8 @@ impl Tried {
         Tried {
             n: position,
             ring: Ring {
-                length: SHORTEST,
                 position,
+                ..SHORTEST
             },
             activity: Activity::Idle,
         }
@@ -57,16 +57,13 @@ impl Tried {
     {
         Tried {
             n: length,
-            ring: Ring {
-                length,
-                position: 0,
-            },
+            ring: Ring { length, ..SHORTEST },
             activity: Activity::Idle,
         }
     }
 }
 
-// The number, and what the calls give over a row as long as the ring, so that 3 is never given.
+// The number, and what the calls give over a row as long as the ring, so that it is never `Refusal::Track`.
 impl fmt::Display for Tried {
     fn fmt<W: fmt::Write>(&self, f: &mut fmt::Formatter<W>) -> fmt::Result {
         let mut room = [0x00FFu16; ROOM];

@@ -5,16 +5,25 @@ use mathlib.Core.List.{List, [], ◌∷◌, ◌++◌}
 use Prim.Native.Nat.{ℕ, zero, suc, ◌+◌, ◌-◌, ◌*◌, ◌≤◌, ◌<◌}
 use native.Mathlib.Nat.{add-zero, sub-zero, zero-add}
 use native.Mathlib.Omega.{arith}
-use lib.ListN.{length}
+use lib.ListN.{length, length-append}
 use Rattle.std.proofs.Common.{append_assoc, append-nil}
 use Rattle.std.specs.Prelude.{None, Some}
 use Rattle.scan.specs.Marks.{lead_of}
 use Rattle.scan.proofs.Marks.{lead_most}
 use Rattle.fields.specs.declared.Found.{Found}
+use Rattle.fields.specs.DataMarks.{mark_behind}
 use Rattle.fields.proofs.Ids.{next_id_lem}
+use Rattle.list.proofs.Lengths.{id_most}
 use Rattle.list.specs.Listing.{id_line, id_lines_by, next_from, id_lines_from, id_lines, joined}
 
 module _ (mfm : Bool) (row : List ℕ) where
+  -- a line more is at most 28 bytes more
+  line_fits : (page after : List ℕ) (f : Found) → after ≡ page ++ id_line mfm row f.id f.behind → length after ≤ length page + 28
+  unfolding id_line
+  line_fits page after f line =
+      let most = id_most (f.behind - 7 - length row) f.id (mark_behind mfm row f.behind) in
+      rw line (rw (length-append page (id_line mfm row f.id f.behind)) (omega (arith, most)))
+
   -- an ID has seven cells after its lead, and ends within the round
   found_place : (from : ℕ) (f : Found) → next_from mfm row from ≡ Some f
       → (from + lead_of mfm + 7 ≤ f.behind) × (f.behind ≤ length row + length row + 6)
@@ -90,12 +99,12 @@ module _ (mfm : Bool) (row : List ℕ) where
         → ids < length row
         → next_from mfm row from ≡ Some f
         → after ≡ page ++ id_line mfm row f.id f.behind
-        → length after ≤ length page + 28
         → Left first after f.behind (ids + 1)
     unfolding joined
-    left_step f after more found line short =
+    left_step f after more found line =
         let line_first = rest_more ids from f more found in
         let there = found_place from f found in
+        let short : length after ≤ length page + 28 = line_fits page after f line in
         record {
           low = omega (arith, left.low, there.0);
           high = there.1;

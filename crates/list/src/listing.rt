@@ -10,15 +10,12 @@ use fields::Found;
 use picture::Shape;
 
 // Where the round begins: the lead of a mark whose byte is cell 0 stands at the ring's end.
-#[tactic(auto, unfolding(scan::specs::Marks::lead_of))]
+#[tactic(auto, using(scan::proofs::Marks::lead_most))]
 fn round_start(mfm: bool, size: u32) -> u32
     requires { 3 ≤ size }
     ensures { result ≡ size - lead_of mfm }
 {
-    if mfm {
-        return size - 3;
-    }
-    size
+    size - u32::from(scan::lead(mfm))
 }
 
 // Puts a line for each ID, by the cell of its FE, round the ring, and hands back how many they are.
@@ -48,7 +45,7 @@ fn put_ids(page: &mut Page, mfm: bool, row: &[u16]) -> u16
 }
 
 // Puts the whole listing of a picture: its head, a line for each ID, their count.
-#[tactic(auto, unfolding(crate::specs::Listing::listing_text))]
+#[tactic(auto, using(crate::proofs::Lengths::lengths), unfolding(crate::specs::Listing::listing_text))]
 fn put_listing(page: &mut Page, shape: Shape, track: u8, side: u8, row: &[u16])
     requires in_bounds { (3 ≤ length row.now) × (length row.now ≤ longest_row) }
     requires empty { page.old ≡ [] }

@@ -42,7 +42,8 @@ fn flush(streams: &mut Streams, page: &Page) -> usize
     text.len()
 }
 
-// The next picture, where one begins, from the bytes held: "only wholly empty input is 9 at a picture's start".
+// The next picture, where one begins, from the bytes held. Behind a picture no byte is no refusal, but the run's end: "only wholly
+// empty input is 9 at a picture's start", which is `Refusal::End`.
 fn step(streams: &mut Streams, run: Run, held: usize, buffers: &mut Buffers) -> Run
     requires held_in_bounds { held ≤ length buffers.old.input }
     requires listing_room_bound { run.written + listing_room < 2 ^ 64 }

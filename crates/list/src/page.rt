@@ -2,6 +2,7 @@
 ghost use Rattle.std.specs.Prelude.{◌≡◌, ◌+◌, ◌≤◌, [], ◌++◌, length};
 ghost use Rattle.list.specs.Listing.{listing_room};
 
+use arrayvec::ArrayVec;
 use std::marker::Model;
 
 // Room for the longest listing.
@@ -10,19 +11,15 @@ pub const ROOM: usize = 7 + (scan::LONGEST_ROW + 9) * 4 + 10;
 // A contract sees a page as the bytes on it.
 #[derive(Drop)]
 pub struct Page {
-    bytes: [u8; ROOM],
-    end: usize,
+    bytes: ArrayVec<u8, ROOM>,
 }
 
 impl Model for Page {
-    ghost use Rattle.std.specs.Prelude.{List, ℕ, ◌≤◌, take};
-    ghost use Rattle.list.specs.Listing.{listing_room};
+    ghost use Rattle.std.specs.Prelude.{List, ℕ};
 
     ghost Value = { List ℕ };
 
-    ghost view = { λ page. take page.end page.bytes };
-
-    ghost invariant = { λ page. page.end ≤ listing_room };
+    ghost view = { λ page. page.bytes.items };
 }
 
 impl Page {
@@ -30,8 +27,7 @@ impl Page {
         ensures { result ≡ [] }
     {
         Page {
-            bytes: [0; ROOM],
-            end: 0,
+            bytes: ArrayVec::new(),
         }
     }
 
@@ -39,23 +35,21 @@ impl Page {
     pub fn clear(&mut self)
         ensures { self.new ≡ [] }
     {
-        self.end = 0;
+        self.bytes.clear();
     }
 
     pub fn text(&self) -> &[u8]
         ensures value { result.now ≡ self.now }
         ensures fits { length result.now ≤ listing_room }
     {
-        &self.bytes[..self.end]
+        self.bytes.as_slice()
     }
 
-    // The bytes of a piece.
+    // The bytes of a piece. There is room, so that none is refused.
     pub fn put(&mut self, piece: &[u8])
         requires { length self.old + length piece.now ≤ listing_room }
         ensures { self.new ≡ self.old ++ piece.now }
     {
-        let end = self.end + piece.len();
-        self.bytes[self.end..end].copy_from_slice(piece);
-        self.end = end;
+        self.bytes.try_extend_from_slice(piece).unwrap();
     }
 }

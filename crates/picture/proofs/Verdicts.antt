@@ -13,7 +13,7 @@ use Rattle.common.proofs.Cases.{by_cond, never}
 use Rattle.refusals.specs.declared.Refusal.{Refusal}
 use Rattle.refusals.specs.declared.Refusal.TheVariants.{End, Side, Room}
 use Rattle.refusals.specs.Numbers.{number_in}
-use Rattle.refusals.proofs.Done.{refused_some}
+use Rattle.refusals.proofs.Outcomes.{refused_some}
 use Rattle.picture.specs.declared.Kind.{Kind}
 use Rattle.picture.specs.Kinds.{kind_of, length_of}
 use Rattle.picture.specs.Layout.{body_length}

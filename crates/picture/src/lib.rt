@@ -14,7 +14,7 @@ use refusals::{Outcome, Refusal};
 pub const LONGEST: usize = 3 + scan::LONGEST_ROW + (scan::LONGEST_ROW + 7) / 8;
 
 // The kinds of pictures, each with a shape and a layout.
-#[derive(Clone, Copy)]
+#[derive(Clone, Copy, Debug, PartialEq, Eq)]
 pub enum Kind {
     Fm,
     Mfm,
@@ -37,7 +37,8 @@ struct CellPlace {
     flags: usize,
 }
 
-// The reader's answer. A refused picture is given as FM, with track and side 0 and no byte taken.
+// The reader's answer. Its values stand beside the outcome and not in it: document 01 gives values for a refused picture too, "track
+// and side 0", which `safe:picture_safe` holds. A refused picture is given as FM, and no byte of it is taken.
 #[derive(Clone, Copy)]
 pub struct Answer {
     pub outcome: Outcome,
@@ -92,7 +93,7 @@ impl Kind {
     // The cells of the track.
     pub fn length(self) -> usize
         ensures value { result ≡ length_of self }
-        ensures lower_bound { (shortest_row ≤ result) × (result ≤ longest_row) }
+        ensures bounds { (shortest_row ≤ result) × (result ≤ longest_row) }
     {
         self.shape().length
     }
@@ -115,7 +116,7 @@ impl Kind {
     #[tactic(auto, unfolding(crate::specs::Layout::body_length))]
     fn body(self) -> usize
         ensures value { result ≡ body_length self }
-        ensures lower_bound { (2 ≤ result) × (result < longest_picture) }
+        ensures bounds { (2 ≤ result) × (result < longest_picture) }
     {
         let cells = self.length();
         2 + cells + (cells + 7) / 8

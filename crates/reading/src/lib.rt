@@ -6,7 +6,7 @@ ghost use Rattle.reading.specs.Reading.{window_missed, window_step, window_cell,
 
 use activity::{Act, Activity, Deed, Seen};
 use scan::{Passed, Sought};
-use search::{again, pulses};
+use search::{again, counted};
 
 #[tactic(auto, unfolding(crate::specs::Reading::window_missed))]
 fn missed(s: Seen, left: u16, passed: u8, run: u8) -> Act
@@ -86,16 +86,14 @@ fn hunted(s: Seen, pulses: u8, passed: Passed) -> Act
     }
 }
 
-// Read Address before its mark. Its end at the fifth pulse stands in `search::search` too: one function for both would take a
-// closure, and no public call has a `requires`.
-#[tactic(auto, unfolding(crate::specs::Reading::hunt_cell))]
+// Read Address before its mark.
+#[tactic(auto, unfolding(crate::specs::Reading::hunt_cell, search::specs::Search::counted_of))]
 pub fn hunt(s: Seen, seen: u8, run: u8) -> Act
     ensures { result ≡ hunt_cell s seen run }
 {
-    let count = pulses(seen, s.index);
-    if 5 <= count {
+    let Some(count) = counted(seen, s.index) else {
         return s.pass(Activity::Idle, Deed::NotFound);
-    }
+    };
     hunted(s, count, scan::pass(s.mfm, s.cell, run))
 }
 

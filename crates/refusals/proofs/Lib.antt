@@ -1,3 +1,2 @@
 -- What the crates above prove with outcomes.
-pub mod Done
 pub mod Outcomes

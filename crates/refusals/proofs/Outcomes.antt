@@ -1,5 +1,5 @@
 -- An outcome is `done` or a refusal, and its number says which. Assumes nothing.
-use Rattle.std.proofs.Common.{◌≡◌, true, false, cond, ℕ, eqb, Ok, Err, refl, sym, ap, ◌∙◌}
+use Rattle.std.proofs.Common.{◌≡◌, ◌<◌, true, false, cond, ℕ, eqb, Ok, Err, refl, sym, ap, ◌∙◌, arith}
 use Rattle.std.specs.Result.{is_ok, is_err}
 use Rattle.refusals.specs.declared.Refusal.{Refusal}
 use Rattle.refusals.specs.declared.Refusal.TheVariants.{Length, Machine, Track, Cell, Register, Busy, Command, Kind, End, Side, Sector, Room}
@@ -79,3 +79,11 @@ done_number o d = ap number_in d
 
 pub nonzero-done : (o : Outcome) → (number_in o ≡ 0 → ⊥) → o ≡ done → ⊥
 nonzero-done o some d = some (done_number o d)
+
+-- the number of a refusal is not 0
+pub refused_some : (r : Refusal) → number_in (refused r) ≡ 0 → ⊥
+refused_some r e = refused-done r (number_done (refused r) e)
+
+pub number_some : (r : Refusal) → 0 < number_of r
+unfolding number_in
+number_some r = let some : number_of r ≡ 0 → ⊥ = refused_some r in omega arith

@@ -6,7 +6,7 @@ ghost use Rattle.registers.specs.Registers.{read_refusal, read_byte, read_wires,
 use crate::{Regs, Status, Wires};
 use refusals::{Outcome, Refusal};
 
-// What refusals 2 and 5 ask of a read.
+// What a read is refused for: Machine, then Register.
 #[tactic(auto, unfolding(crate::specs::Registers::read_refusal))]
 pub fn read_refusal(valid: bool, number: u8) -> Outcome
     ensures { result ≡ read_refusal valid number }
@@ -55,7 +55,7 @@ fn guarded_load(number: u8, byte: u8) -> bool
     }
 }
 
-// What refusals 2, 5 and 6 ask of a load.
+// What a load is refused for: Machine, then Register, then Busy.
 #[tactic(auto, unfolding(crate::specs::Registers::read_refusal, crate::specs::Registers::load_refusal))]
 pub fn load_refusal(valid: bool, busy: bool, number: u8, byte: u8) -> Outcome
     ensures { result ≡ load_refusal valid busy number byte }

@@ -86,8 +86,9 @@ pub struct Status {
     pub byte: u8,
 }
 
-// A step pulse that a byte time reports.
-#[derive(Clone, Copy)]
+// A step pulse that a byte time reports: the wire's own three states, by which the calls' answers and the theorems name it, and no
+// direction that may be missing.
+#[derive(Clone, Copy, Debug, PartialEq, Eq)]
 pub enum Pulse {
     Off,
     In,

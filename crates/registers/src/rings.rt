@@ -17,19 +17,14 @@ pub fn ring_within(ring: Ring) -> bool
 pub fn next(ring: Ring) -> Ring
     ensures { result ≡ ring_next ring }
 {
-    if ring.position < ring.length {
-        if ring.position + 1 == ring.length {
-            return Ring {
-                position: 0,
-                ..ring
-            };
-        }
-        return Ring {
-            position: ring.position + 1,
-            ..ring
-        };
+    if ring.length <= ring.position {
+        return ring;
     }
-    ring
+    let after = ring.position + 1;
+    Ring {
+        position: if after == ring.length { 0 } else { after },
+        ..ring
+    }
 }
 
 // What a byte time sees.

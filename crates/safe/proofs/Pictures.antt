@@ -14,7 +14,7 @@ use Rattle.common.specs.Bits.{bit_of}
 use Rattle.refusals.specs.declared.Refusal.{Refusal}
 use Rattle.refusals.specs.declared.Refusal.TheVariants.{End, Side, Room}
 use Rattle.refusals.specs.Numbers.{number_of, number_in}
-use Rattle.refusals.proofs.Done.{number_some}
+use Rattle.refusals.proofs.Outcomes.{number_some}
 use Rattle.picture.specs.declared.Answer.{Answer}
 use Rattle.picture.specs.declared.Kind.{Kind}
 use Rattle.picture.specs.Kinds.{kind_of, shape_of, length_of}

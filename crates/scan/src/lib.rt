@@ -7,26 +7,30 @@ ghost use Rattle.scan.specs.Rows.{length_within};
 ghost use Rattle.scan.specs.DataMarks.{data_mark_of, data_mark_in, data_mark_step, mark_byte, is_deleted, window_of};
 ghost use Rattle.scan.specs.Ids.{last_id_cell, id_begun, pushed_of, whole_of, run_in, id_byte_step, id_cell_step, id_mark_step, id_step};
 
-// The range of a row's length. The rows of `bench` and `list` follow from it.
+// No track has fewer cells.
 pub const SHORTEST_ROW: usize = 2048;
 
+// No track has more cells. The rows of `bench` and `list` follow from it.
 pub const LONGEST_ROW: usize = 10416;
 
-// A1 with missing clocks, and how many of them stand before a mark's byte in MFM.
+// A1 with missing clocks.
 pub const SYNC: u16 = 0x1A1;
 
+// How many of these cells stand before a mark's byte in MFM.
 pub const SYNCS: u8 = 3;
 
-// The cells of an ID after its mark, and the last of them, counted from 0.
+// The cells of an ID after its mark.
 pub const ID_CELLS: u8 = 6;
 
+// The last cell of an ID, counted from 0 after its mark.
 pub const LAST_ID_CELL: u8 = ID_CELLS - 1;
 
 // The longer of the two windows for a data mark, MFM's.
 pub const LONGEST_WINDOW: u8 = 43;
 
 // What a cell is after those that passed. This enum, `Sought`, `Scan` and `Heard` are no Option and no Result: each of their cases
-// says what happened, and none is an absence or an error.
+// says what happened, and none is an absence or an error. `Sought` and `Heard` are not one generic type: each names what it met, a
+// data mark or a whole ID.
 #[derive(Clone, Copy)]
 pub enum Passed {
     // No mark ends here; so many flagged A1 cells, at most three, stand last in a row.
@@ -36,7 +40,7 @@ pub enum Passed {
 }
 
 // The data mark that was met, by its byte. F9 and FA are those of disks from FD1771 machines.
-#[derive(Clone, Copy)]
+#[derive(Clone, Copy, Debug, PartialEq, Eq)]
 pub enum DataMark {
     Fb,
     F8,
@@ -44,6 +48,7 @@ pub enum DataMark {
     Fa,
 }
 
+// What a cell is to whoever waits for a data mark.
 #[derive(Clone, Copy)]
 pub enum Sought {
     // No data mark ends here; so many flagged A1 cells stand last in a row.
@@ -79,6 +84,7 @@ pub enum Scan {
     Field(Part),
 }
 
+// What a cell is to whoever waits for an ID.
 #[derive(Clone, Copy)]
 pub enum Heard {
     On(Scan),
@@ -94,8 +100,8 @@ pub fn length_within(length: usize) -> bool
     (SHORTEST_ROW <= length) & (length <= LONGEST_ROW)
 }
 
-// How many flagged A1 cells stand before a mark's byte. A number of each density is a function of its own, here and elsewhere: one
-// over both numbers would only be another word for `if`.
+// How many flagged A1 cells stand before a mark's byte. Each number that differs between the densities has a function like this one.
+// A helper that picks one of two numbers by the density would say no more than its `if`.
 #[tactic(auto, unfolding(crate::specs::Marks::lead_of))]
 pub fn lead(mfm: bool) -> u8
     ensures { result ≡ lead_of mfm }

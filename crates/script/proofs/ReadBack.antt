@@ -3,6 +3,7 @@ use Rattle.std.proofs.Common.{◌≡◌, refl, sym, ap, Bool, true, false, cond,
 use lib.Dec.{ltb, eqb}
 use borrow.Author.Tests.{eqb-true}
 use Rattle.common.proofs.Arms.{range}
+use Rattle.text.specs.Digits.{digit_in}
 use Rattle.text.specs.Hex.{digit_of, hex_of}
 use Rattle.script.specs.Glyphs.{value_of}
 use Rattle.script.specs.Words.{no_word, longer_by, value_with, word_with, is_number}
@@ -32,7 +33,7 @@ value_glyph d h =
     eq_some (value_of (glyph d)) d (sym (range (λ k. is_value (value_of (glyph k)) k) 0 16 refl zero-le h))
 
 value_digit : (n : ℕ) → value_of (digit_of n) ≡ Some (n % 16)
-unfolding digit_of
+unfolding digit_of digit_in
 value_digit n = value_glyph (n % 16) (omega arith)
 
 -- a number is its sixteenth part and its last digit

@@ -6,5 +6,5 @@ mod requests;
 mod words;
 
 pub use lines::{BadLine, Line, Reader};
-pub use requests::{Call, Request, Task, request_of};
+pub use requests::{Call, Request, Task, asked_by, request_of};
 pub use words::Word;

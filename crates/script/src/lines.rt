@@ -6,7 +6,7 @@ use crate::words::Word;
 use arrayvec::ArrayVec;
 
 // A line so far: its letter, and after it a place and 64 cells at most.
-#[derive(Drop)]
+#[derive(Clone, Drop)]
 pub struct Line {
     pub letter: Option<u8>,
     pub numbers: ArrayVec<u16, 65>,
@@ -17,11 +17,12 @@ pub struct Line {
 pub struct BadLine;
 
 // A line while its bytes come in. A comment of any length is passed over, so no line is ever held whole.
-#[derive(Drop)]
+#[derive(Clone, Drop)]
 pub struct Reader {
     // It is bad from a word on that is neither its letter nor a number that it has room for.
     pub line: Result<Line, BadLine>,
     pub word: Word,
+    // Two flags and no enum of three states: `fed` and `ended` also say what they give where both are on.
     pub comment: bool,
     // There is a carriage return outside a comment: only a newline may follow.
     pub cr: bool,

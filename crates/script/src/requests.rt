@@ -1,6 +1,6 @@
 // What a line asks for: its letter, as many numbers as the letter takes, each within its bounds.
 ghost use Rattle.std.specs.Prelude.{◌≡◌};
-ghost use Rattle.script.specs.Requests.{byte_of, flag_of, power_on_request, lines_request, load_request, read_request, view_request, of_none, of_one, of_two, of_three, asked_of, request_of};
+ghost use Rattle.script.specs.Requests.{byte_of, flag_of, power_on_request, lines_request, load_request, read_request, view_request, of_none, of_one, of_two, of_three, asked_of, asked_by, request_of};
 
 use crate::lines::{BadLine, Line};
 
@@ -31,6 +31,7 @@ pub enum Request {
     PowerOn {
         mfm: bool,
         length: u16,
+        // A bool, since `script` stands on no crate that knows the chips.
         wd1797: bool,
     },
     SetLines {
@@ -185,15 +186,22 @@ fn asked(letter: u8, numbers: &[u16]) -> Result<Request, BadLine>
     }
 }
 
-// A line with nothing in it but a comment asks for nothing.
-#[tactic(auto, unfolding(crate::specs::Requests::request_of))]
-pub fn request_of(line: &Line) -> Result<Option<Request>, BadLine>
-    ensures { result ≡ request_of line.now }
+// What a letter and its numbers ask for, however many these are. A line with nothing in it but a comment has neither, and asks
+// for nothing.
+pub fn asked_by(letter: Option<u8>, numbers: &[u16]) -> Result<Option<Request>, BadLine>
+    ensures { result ≡ asked_by letter numbers.now }
 {
-    let numbers = line.numbers.as_slice();
-    match line.letter {
+    match letter {
         Some(letter) => asked(letter, numbers).map(Some),
         None if numbers.is_empty() => Ok(None),
         None => Err(BadLine),
     }
+}
+
+// What a line asks for.
+#[tactic(auto, unfolding(crate::specs::Requests::request_of))]
+pub fn request_of(line: &Line) -> Result<Option<Request>, BadLine>
+    ensures { result ≡ request_of line.now }
+{
+    asked_by(line.letter, line.numbers.as_slice())
 }

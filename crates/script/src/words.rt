@@ -63,11 +63,7 @@ impl Word {
     pub(crate) fn letter(self) -> Option<u8>
         ensures { result ≡ letter_of self }
     {
-        if self.is_letter() {
-            Some(self.last)
-        } else {
-            None
-        }
+        self.is_letter().then_some(self.last)
     }
 
     // The number that the word is.
@@ -75,6 +71,6 @@ impl Word {
     pub(crate) fn number(self) -> Option<u16>
         ensures { result ≡ number_of self }
     {
-        if self.is_number() { self.value } else { None }
+        self.value.filter(|_| self.is_number())
     }
 }

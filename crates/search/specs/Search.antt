@@ -22,6 +22,10 @@ use Rattle.activity.specs.declared.Deed.TheVariants.{Nothing, Matched, NotFound}
 unfoldable pub pulses_seen : ℕ → Bool → ℕ
 pulses_seen seen index = cond index (cond (ltb seen 5) (seen + 1) 5) seen
 
+-- as long as "the fifth ends the command" does not hold
+unfoldable pub counted_of : ℕ → Bool → Option ℕ
+counted_of seen index = cond (ltb (pulses_seen seen index) 5) (Some (pulses_seen seen index)) None
+
 -- "with C, its side is S", on the 1797 "the ID's side must equal U": the side that is asked, where one is
 unfoldable pub side_matches : ℕ → Option ℕ → Bool
 side_matches side None = true

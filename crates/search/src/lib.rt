@@ -2,7 +2,7 @@
 #![tactic(auto)]
 
 ghost use Rattle.std.specs.Prelude.{◌≡◌};
-ghost use Rattle.search.specs.Search.{pulses_seen, side_matches, sector_matches, matches_for, after_match, after_record, id_found, search_step, search_cell};
+ghost use Rattle.search.specs.Search.{pulses_seen, side_matches, sector_matches, matches_for, after_match, after_record, id_found, search_step, search_cell, counted_of};
 
 use activity::{Act, Activity, Deed, Seen};
 use command::{Job, Order};
@@ -18,6 +18,15 @@ pub fn pulses(seen: u8, index: bool) -> u8
     } else {
         seen
     }
+}
+
+// The same as long as the search goes on: its fifth pulse ends it.
+#[tactic(auto, unfolding(crate::specs::Search::counted_of))]
+pub fn counted(seen: u8, index: bool) -> Option<u8>
+    ensures { result ≡ counted_of seen index }
+{
+    let count = pulses(seen, index);
+    (count < 5).then_some(count)
 }
 
 #[tactic(auto, unfolding(crate::specs::Search::side_matches))]
@@ -94,13 +103,12 @@ pub fn again(follows: bool) -> Activity
 }
 
 // One cell more.
-#[tactic(auto, unfolding(crate::specs::Search::search_cell))]
+#[tactic(auto, unfolding(crate::specs::Search::search_cell, crate::specs::Search::counted_of))]
 pub fn search(o: Order, s: Seen, seen: u8, scan: Scan) -> Act
     ensures { result ≡ search_cell o s seen scan }
 {
-    let count = pulses(seen, s.index);
-    if 5 <= count {
+    let Some(count) = counted(seen, s.index) else {
         return s.pass(Activity::Idle, Deed::NotFound);
-    }
+    };
     hears(o, s, count, scan::hear(s.mfm, s.cell, scan))
 }

@@ -16,6 +16,11 @@ pub struct Reach {
     pub below: u16,
 }
 
+impl Reach {
+    // No stretch.
+    const NONE: Reach = Reach { most: 0, below: 0 };
+}
+
 // So many byte times of a wait are left in which nothing happens.
 #[tactic(auto, unfolding(crate::specs::Stretches::wait_reach, crate::specs::Stretches::least_of))]
 fn wait_reach(limit: u16, left: u16) -> Reach
@@ -44,7 +49,7 @@ fn search_reach(limit: u16, pulses: u8, scan: Scan) -> Reach
             below: 256,
         }
     } else {
-        Reach { most: 0, below: 0 }
+        Reach::NONE
     }
 }
 
@@ -58,12 +63,11 @@ fn reaches(limit: u16, activity: Activity) -> Reach
             most: limit,
             below: 512,
         },
-        Activity::Seek(left) => wait_reach(limit, left.saturating_sub(1)),
-        Activity::Stop(left) => wait_reach(limit, left.saturating_sub(1)),
+        Activity::Seek(left) | Activity::Stop(left) => wait_reach(limit, left.saturating_sub(1)),
         Activity::Settle(left) => wait_reach(limit, left),
         Activity::Search(pulses, scan) => search_reach(limit, pulses, scan),
         Activity::Hunt(pulses, run) => search_reach(limit, pulses, Scan::Gap(run)),
-        _ => Reach { most: 0, below: 0 },
+        _ => Reach::NONE,
     }
 }
 

@@ -1,9 +1,10 @@
 -- Numbers below 65,536 as decimal digits, in ASCII. Assumes nothing.
-use Rattle.std.specs.Prelude.{cond, List, [], ◌∷◌, ℕ, ◌+◌, ◌-◌, ◌/◌, ◌%◌, ltb, drop}
+use Rattle.std.specs.Prelude.{cond, List, [], ◌∷◌, ℕ, ◌-◌, ◌/◌, ltb, drop}
+use Rattle.text.specs.Digits.{digit_in}
 
 -- 0 to 9 from 30 (hex) on
 unfoldable pub figure_of : ℕ → ℕ
-figure_of n = n % 10 + 48
+figure_of n = digit_in 10 n
 
 -- five digits
 unfoldable pub figures_of : ℕ → List ℕ

@@ -17,7 +17,7 @@ fn digit_in<const BASE: u16>(n: u16) -> u8
 }
 
 // A capital hexadecimal digit, in ASCII; of a larger number the last one.
-#[tactic(auto, unfolding(crate::specs::Hex::digit_of, crate::specs::Digits::digit_in))]
+#[tactic(auto, unfolding(crate::specs::Hex::digit_of))]
 pub fn digit(n: u16) -> u8
     ensures { result ≡ digit_of n }
 {
@@ -33,7 +33,7 @@ pub fn hex(n: u16) -> [u8; 4]
 }
 
 // Five decimal digits, the first of them 0 where the number has fewer.
-#[tactic(auto, unfolding(crate::specs::Decimal::figures_of, crate::specs::Decimal::figure_of, crate::specs::Digits::digit_in))]
+#[tactic(auto, unfolding(crate::specs::Decimal::figures_of, crate::specs::Decimal::figure_of))]
 pub fn figures(n: u16) -> [u8; 5]
     ensures { result ≡ figures_of n }
 {
@@ -50,7 +50,7 @@ pub fn figures(n: u16) -> [u8; 5]
 #[tactic(auto, unfolding(crate::specs::Decimal::places_of))]
 pub fn places(n: u16) -> usize
     ensures value { result ≡ places_of n }
-    ensures lower_bound { (1 ≤ result) × (result ≤ 5) }
+    ensures bounds { (1 ≤ result) × (result ≤ 5) }
 {
     if n < 10 {
         1

@@ -1,5 +1,4 @@
 -- What the proofs of `viewer` share, and what the viewer hands back in document 01's words: `Views`.
-pub mod Steps
 pub mod Search
 pub mod Sectors
 pub mod Views

@@ -17,7 +17,7 @@ pub struct Span {
     pub to: usize,
 }
 
-// The side that they stand on, and where.
+// The side that a sector's data cells stand on, and where.
 #[derive(Clone, Copy)]
 pub enum Place {
     Zero(Span),
@@ -33,15 +33,13 @@ struct Wanted {
 }
 
 // The register after the cells from one place up to another, flags ignored.
-#[tactic(auto, using(crate::proofs::Steps::registering))]
 fn register(side: &[u16], crc: u16, from: usize, to: usize) -> u16
     ensures { result ≡ register_over side.now crc from (to - from) }
 {
-    let mut register = crc;
-    for at in from..to {
-        register = crc::step(register, (fields::cell(side, at) % 256) as u8);
-    }
-    register
+    (from..to).fold(
+        crc,
+        |register, at| crc::step(register, (fields::cell(side, at) % 256) as u8),
+    )
 }
 
 impl Wanted {
@@ -100,7 +98,7 @@ fn cells_within(side: &[u16]) -> bool
     side.iter().all(|&cell| cell <= 511)
 }
 
-// 1, then 4, where the sides may not be searched.
+// Why the sides may not be searched, if they may not: a length is asked before a cell.
 #[tactic(auto, unfolding(crate::specs::Views::view_refusal))]
 fn refusal(side0: &[u16], side1: &[u16]) -> Outcome
     ensures value { result ≡ view_refusal side0.now side1.now }
@@ -115,7 +113,8 @@ fn refusal(side0: &[u16], side1: &[u16]) -> Outcome
     Ok(())
 }
 
-// Where the sector's data cells stand.
+// Where the sector's data cells stand. Density, track and sector are no struct here, nor below: README and the demands name the
+// arguments of these calls.
 #[tactic(auto, unfolding(crate::specs::Views::place_of, crate::specs::Views::first_place, crate::specs::Views::second_place))]
 pub fn find(
     side0: &[u16],
@@ -151,12 +150,10 @@ pub fn view<'a>(side0: &'a [u16], side1: &'a [u16], mfm: bool, track: u8, sector
     }
 }
 
-// The number that goes with the part: 0, or the refusal's.
+// The number that goes with the part.
+#[tactic(auto, unfolding(refusals::specs::Numbers::number_in))]
 pub fn number(side0: &[u16], side1: &[u16], mfm: bool, track: u8, sector: u8) -> u8
     ensures { result ≡ number_of (place_of side0.now side1.now mfm track sector) }
 {
-    match find(side0, side1, mfm, track, sector) {
-        Ok(_) => 0,
-        Err(refusal) => refusal.number(),
-    }
+    refusals::number(find(side0, side1, mfm, track, sector).map(|_| ()))
 }

@@ -32,7 +32,8 @@ use Rattle.wd.specs.Turns.{conditions_of, act_applied, sees_of, does_of, cell_tu
 use Rattle.wd.specs.Rows.{row_refusal, under, refused_at, done_by, byte_time, byte_time_row, tallied, counted_of, ran_to, empty_run, stops_at, Run, onward, runs_on}
 use Rattle.wd.specs.Stretches.{after_stretch, first_stretch, ran_on}
 use Rattle.wd.proofs.Valid.{Held, valid_ring, open_row, pass_open}
-use Rattle.wd.proofs.Runs.{at, no_more, Along, starts}
+use Rattle.wd.proofs.Runs.{at, no_more, Along, starts, again}
+use Rattle.wd.specs.Counts.{HasRoom}
 use Rattle.refusals.specs.Numbers.{Outcome, done}
 use Rattle.refusals.proofs.Outcomes.{done-ok, not_err-done, not_ok-done, refused-done}
 use Rattle.std.specs.Result.{is_ok, is_err}
@@ -406,16 +407,33 @@ module _ (l : Lines) (next : Ran) (row' : List ℕ) (whole : ℕ) (start : Run) 
           ∙ stretch_runs l next row' (comes (omega arith)).0 left k (passes_next (omega arith)) (left - k)
 
   -- the run goes on after the stretch as it would have gone on byte time by byte time
-  pub stretch_along : k ≤ left → (ran'' : Ran) (row'' : List ℕ) → ran'' ≡ after → row'' ≡ row' → Along l whole start (left - k) ran'' row''
-  stretch_along most ran'' row'' h same =
-      subst (Along l whole start (left - k) ran'') (sym same)
-      (subst (λ (r : Ran). Along l whole start (left - k) r row') (sym h)
+  pub stretch_along : k ≤ left → (ran'' : Ran) → ran'' ≡ after → Along l whole start (left - k) ran'' row'
+  stretch_along most ran'' h =
+      subst (λ (r : Ran). Along l whole start (left - k) r row') (sym h)
       (record {
         same = v.same;
         passes = opens_after;
         rest = v.rest ∙ rest_after most;
         room = rw (tally_on next k l.ready) (omega (arith, v.room.0), (omega (arith, v.room.1.0), omega (arith, v.room.1.1)));
-      }))
+      })
+
+-- after a byte time that has not stopped the run: there is room for the stretch that comes next, and the run goes on after it
+module _ (l : Lines) (ran : Ran) (row : List ℕ) (passed : Passed) (row' : List ℕ) (next : Ran)
+    (hp : passed ≡ byte_time ran.machine l row) (hr : row' ≡ byte_time_row ran.machine l row) (hn : next ≡ ran_to ran.tally passed)
+    (whole : ℕ) (start : Run) (left : ℕ) (v : Along l whole start left ran row) (more : 0 < left) (on : stops_at passed ≡ false)
+    (room : (n : ℕ) → HasRoom ran.tally (n + 1) → HasRoom next.tally n)
+    (k : ℕ) (hk : k ≡ stretch_ahead next.machine.ring next.machine.activity (left - 1) row') (most : k ≤ left - 1) where
+  one : Along l whole start (left - 1) next row'
+  one = again l ran row passed row' next hp hr hn whole start left v more on room
+
+  still : 0 < k → Quiet l next row' × (k ≡ stretch_ahead next.machine.ring next.machine.activity (left - 1) row')
+  still some = (quiet_after l ran row passed next row' hp hn on one.passes, hk)
+
+  pub turn_fits : (next.tally.passed + k < 65536) × (next.machine.ring.position + k < 65536)
+  turn_fits = (omega (arith, one.room.0, most), stretch_fits l next row' whole start (left - 1) one k still)
+
+  pub turn_along : (ran'' : Ran) → ran'' ≡ ran_on next k l.ready → Along l whole start (left - 1 - k) ran'' row'
+  turn_along = stretch_along l next row' whole start (left - 1) one k still most
 
 -- ---- where a run begins
 
@@ -432,24 +450,13 @@ module _ (l : Lines) (m : Machine) (limit : ℕ) (row : List ℕ) (opens : row_r
   pub first_fits : (ran.tally.passed + k < 65536) × (ran.machine.ring.position + k < 65536)
   first_fits = (omega (arith, begun.room.0, most), stretch_fits l ran row limit (at ran row) limit begun k comes)
 
-  pub first_along : (ran' : Ran) (row' : List ℕ) → ran' ≡ ran_on ran k l.ready → row' ≡ row → Along l limit (at ran row) (limit - k) ran' row'
+  pub first_along : (ran' : Ran) → ran' ≡ ran_on ran k l.ready → Along l limit (at ran row) (limit - k) ran' row
   first_along = stretch_along l ran row limit (at ran row) limit begun k comes most
 
   -- the run goes on after it
-  pub first_run :
-      (ran' : Ran) (row' : List ℕ)
-      → ran' ≡ ran_on ran k l.ready
-      → row' ≡ row
-      → runs_on limit l (at (empty_run done m) row) ≡ runs_on (limit - k) l (at ran' row')
-  first_run ran' row' h same =
-      ap (λ (r : Ran). runs_on limit l (at r row)) (sym e) ∙ (first_along ran' row' h same).rest
+  pub first_run : (ran' : Ran) → ran' ≡ ran_on ran k l.ready → runs_on limit l (at (empty_run done m) row) ≡ runs_on (limit - k) l (at ran' row)
+  first_run ran' h = ap (λ (r : Ran). runs_on limit l (at r row)) (sym e) ∙ (first_along ran' h).rest
 
   -- or is over with it
-  pub first_whole :
-      (ran' : Ran) (row' : List ℕ)
-      → ran' ≡ ran_on ran k l.ready
-      → row' ≡ row
-      → k ≡ limit
-      → runs_on limit l (at (empty_run done m) row) ≡ at ran' row'
-  first_whole ran' row' h same all =
-      first_run ran' row' h same ∙ no_more (limit - k) l (at ran' row') (omega (arith, all))
+  pub first_whole : (ran' : Ran) → ran' ≡ ran_on ran k l.ready → k ≡ limit → runs_on limit l (at (empty_run done m) row) ≡ at ran' row
+  first_whole ran' h all = first_run ran' h ∙ no_more (limit - k) l (at ran' row) (omega (arith, all))

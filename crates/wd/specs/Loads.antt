@@ -8,7 +8,7 @@ use Rattle.activity.specs.Limits.{busy_in}
 use Rattle.registers.specs.declared.Lines.{Lines}
 use Rattle.wd.specs.declared.Machine.{Machine}
 use Rattle.wd.specs.declared.Called.{Called}
-use Rattle.wd.specs.Machines.{valid_of}
+use Rattle.wd.specs.Machines.{valid_of, called}
 use Rattle.wd.specs.Reads.{with_bus}
 use Rattle.registers.specs.Registers.{load_refusal, load_regs, load_wires}
 use Rattle.refusals.specs.declared.Refusal.TheVariants as refusal
@@ -36,13 +36,13 @@ command_begun m l b command =
 
 -- 7: "the byte is no command"
 unfoldable pub command_answer : Machine → Lines → ℕ → Option Command → Called
-command_answer m l b (Some command) = record { outcome = done; machine = command_begun m l b command }
-command_answer m l b None = record { outcome = refused refusal.Command; machine = m }
+command_answer m l b (Some command) = called done (command_begun m l b command)
+command_answer m l b None = called (refused refusal.Command) m
 
 -- a refused load: "as given"
 unfoldable pub load_register : Machine → Lines → ℕ → ℕ → Called
 load_register m l number b =
     cond (is_ok (load_refusal (valid_of m) (busy_in m.activity) number b))
     (cond (eqb number 0) (command_answer m l b (decoded_of m.chip b))
-    (record { outcome = done; machine = with_bus m (load_regs m.regs number b) (load_wires m.wires number) }))
-    (record { outcome = load_refusal (valid_of m) (busy_in m.activity) number b; machine = m })
+    (called done (with_bus m (load_regs m.regs number b) (load_wires m.wires number))))
+    (called (load_refusal (valid_of m) (busy_in m.activity) number b) m)

@@ -8,9 +8,13 @@ use Rattle.registers.specs.declared.Flags.{Flags}
 use Rattle.wd.specs.declared.Machine.{Machine}
 use Rattle.wd.specs.declared.Called.{Called}
 use Rattle.refusals.specs.declared.Refusal.TheVariants as refusal
-use Rattle.refusals.specs.Numbers.{done, refused}
+use Rattle.refusals.specs.Numbers.{Outcome, done, refused}
 use Rattle.scan.specs.Rows.{shortest_row, length_within}
 use Rattle.registers.specs.Rings.{ring_within}
+
+-- what power-on and a load answer
+abbrev pub called : Outcome → Machine → Called
+called outcome m = record { outcome = outcome; machine = m }
 
 -- "or a count above the largest its activity holds in any machine grown from power-on"
 unfoldable pub valid_of : Machine → Bool
@@ -43,5 +47,5 @@ fresh_machine length mfm chip =
 unfoldable pub power_on : ℕ → Bool → Chip → Called
 power_on length mfm chip =
     cond (length_within length)
-    (record { outcome = done; machine = fresh_machine length mfm chip })
-    (record { outcome = refused refusal.Length; machine = fresh_machine shortest_row false chip })
+    (called done (fresh_machine length mfm chip))
+    (called (refused refusal.Length) (fresh_machine shortest_row false chip))

@@ -1,14 +1,35 @@
 // What byte times and runs answer, and what a run counts.
 ghost use Rattle.std.specs.Prelude.{◌≡◌, ℕ, ◌+◌, ◌<◌};
-ghost use Rattle.refusals.specs.Numbers.{refused};
+ghost use Rattle.refusals.specs.Numbers.{done, refused};
 ghost use Rattle.wd.specs.Counts.{HasRoom};
+ghost use Rattle.wd.specs.Machines.{called};
 ghost use Rattle.wd.specs.Rows.{refused_at, done_by, stops_at, counted_of, ran_to, empty_run};
 ghost use Rattle.wd.specs.Stretches.{ran_on};
 ghost use Rattle.wd.specs.Transfers.{one_byte_time};
 
-use crate::{Machine, Passed, Ran, Tally, Turn};
+use crate::{Called, Machine, Passed, Ran, Tally, Turn};
 use refusals::{Outcome, Refusal};
 use registers::Pulse;
+
+impl Called {
+    pub(crate) fn refused(refusal: Refusal, machine: Machine) -> Called
+        ensures { result ≡ called (refused refusal) machine }
+    {
+        Called {
+            outcome: Err(refusal),
+            machine,
+        }
+    }
+
+    pub(crate) fn done(machine: Machine) -> Called
+        ensures { result ≡ called done machine }
+    {
+        Called {
+            outcome: Ok(()),
+            machine,
+        }
+    }
+}
 
 impl Passed {
     #[tactic(auto, unfolding(crate::specs::Rows::refused_at))]

@@ -33,7 +33,9 @@ pub struct Machine {
 }
 
 // The answers: done or why the call was refused, and the machine after the call. Power-on and a load answer no more than that;
-// the others give one thing more, each by a name of its own, which one generic answer would not have.
+// the others give one thing more, each by a name of its own, which one generic answer would not have. It stands beside the
+// outcome, not in it, since a refused call gives it too: document 01's "as given, byte 0", in the contract of
+// `wd:read_register`.
 #[derive(Clone, Copy)]
 pub struct Called {
     pub outcome: Outcome,

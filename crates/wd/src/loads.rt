@@ -32,14 +32,8 @@ impl Machine {
         ensures { result ≡ command_answer self lines byte decoded }
     {
         match decoded {
-            Some(command) => Called {
-                outcome: Ok(()),
-                machine: self.begin(lines, byte, command),
-            },
-            None => Called {
-                outcome: Err(Refusal::Command),
-                machine: self,
-            },
+            Some(command) => Called::done(self.begin(lines, byte, command)),
+            None => Called::refused(Refusal::Command, self),
         }
     }
 
@@ -50,18 +44,12 @@ impl Machine {
     {
         let busy = activity::busy(self.activity);
         if let Err(refusal) = bus::load_refusal(self.valid(), busy, number, byte) {
-            return Called {
-                outcome: Err(refusal),
-                machine: self,
-            };
+            return Called::refused(refusal, self);
         }
         if number == 0 {
             return self.command(lines, byte, command::decode(self.chip, byte));
         }
         let regs = bus::load_regs(self.regs, number, byte);
-        Called {
-            outcome: Ok(()),
-            machine: self.with_bus(regs, bus::load_wires(self.wires, number)),
-        }
+        Called::done(self.with_bus(regs, bus::load_wires(self.wires, number)))
     }
 }

@@ -1,4 +1,4 @@
-// Power-on, and the machines that refusal 2 lets through.
+// Power-on, and the machines that no call refuses (`Refusal::Machine`).
 ghost use Rattle.std.specs.Prelude.{◌≡◌};
 ghost use Rattle.wd.specs.Machines.{valid_of, fresh_machine, power_on};
 
@@ -59,19 +59,13 @@ impl Machine {
         ensures { result ≡ power_on length mfm chip }
     {
         if scan::length_within(length as usize) {
-            Called {
-                outcome: Ok(()),
-                machine: Machine::fresh(length, mfm, chip),
-            }
+            Called::done(Machine::fresh(length, mfm, chip))
         } else {
-            Called {
-                outcome: Err(Refusal::Length),
-                machine: Machine::fresh(SHORTEST, false, chip),
-            }
+            Called::refused(Refusal::Length, Machine::fresh(SHORTEST, false, chip))
         }
     }
 
-    // What refusal 2 asks.
+    // A machine that `Refusal::Machine` lets through.
     #[tactic(auto, unfolding(crate::specs::Machines::valid_of))]
     pub(crate) fn valid(self) -> bool
         ensures { result ≡ valid_of self }

@@ -1,5 +1,5 @@
 // Byte times over the lent row.
-ghost use Rattle.std.specs.Prelude.{◌≡◌, length};
+ghost use Rattle.std.specs.Prelude.{◌≡◌};
 ghost use Rattle.wd.specs.Counts.{MayPass};
 ghost use Rattle.wd.specs.Rows.{row_refusal, byte_time, byte_time_row};
 
@@ -8,7 +8,7 @@ use refusals::{Outcome, Refusal};
 use registers::Lines;
 
 impl Machine {
-    // What refusals 2 and 3 ask.
+    // What a row is refused for: Machine, then Track.
     #[tactic(auto, unfolding(crate::specs::Rows::row_refusal))]
     pub(crate) fn row_refusal(self, length: usize) -> Outcome
         ensures { result ≡ row_refusal self length }
@@ -22,7 +22,7 @@ impl Machine {
         Ok(())
     }
 
-    // The cell under the head passes. Whoever calls has looked at refusals 2 and 3.
+    // The cell under the head passes. Whoever calls has looked at the row's refusals.
     #[tactic(auto, unfolding(crate::specs::Rows::byte_time, crate::specs::Rows::byte_time_row))]
     pub(crate) fn pass(self, lines: Lines, row: &mut [u16]) -> Passed
         requires { MayPass self row.old }

@@ -1,5 +1,5 @@
 // Runs: byte times up to a limit, or to the first that ends with DRQ or INTRQ on.
-ghost use Rattle.std.specs.Prelude.{◌≡◌, length};
+ghost use Rattle.std.specs.Prelude.{◌≡◌};
 ghost use Rattle.refusals.specs.Numbers.{done};
 ghost use Rattle.wd.specs.Counts.{MayPass, HasRoom};
 ghost use Rattle.wd.specs.Rows.{empty_run, run_of, run_row, further_of};
@@ -43,15 +43,15 @@ impl Machine {
         if stretch == 0 {
             return run_on(start, lines, limit, row);
         }
-        let behind = start.stretched(stretch, lines.ready);
+        let after = start.stretched(stretch, lines.ready);
         if stretch == limit {
-            return behind;
+            return after;
         }
-        run_on(behind, lines, limit - stretch, row)
+        run_on(after, lines, limit - stretch, row)
     }
 
     // Byte times up to a limit, to the first that ends with DRQ or INTRQ on. A byte time keeps a valid machine valid and
-    // the row's length, so refusals 2 and 3 are looked at once. A byte transferred in the first one ends the run with it.
+    // the row's length, so the row's refusals are looked at once. A byte transferred in the first one ends the run with it.
     pub fn run(self, lines: Lines, limit: u16, row: &mut [u16]) -> Ran
         ensures { (result ≡ run_of self lines limit row.old) × (row.new ≡ run_row self lines limit row.old) }
     {

@@ -8,8 +8,8 @@ use registers::{Past, Ring};
 
 impl Machine {
     // The byte times of a stretch that come next.
-    pub(crate) fn ahead(self, limit: u16, row: &mut [u16]) -> u16
-        ensures value { (result ≡ stretch_ahead self.ring self.activity limit row.old) × (row.new ≡ row.old) }
+    pub(crate) fn ahead(self, limit: u16, row: &[u16]) -> u16
+        ensures value { result ≡ stretch_ahead self.ring self.activity limit row.now }
         ensures upper_bound { result ≤ limit }
     {
         stretch::ahead(self.ring, self.activity, limit, row)
@@ -35,15 +35,15 @@ impl Machine {
         }
     }
 
-    // The byte times of a stretch that a run begins with. None where a wire is on, since the run stops there; nor where Ready is
-    // seen anew, since a condition may be met.
+    // The byte times of a stretch that a run begins with. None where a wire is on, since the run stops there; nor where Ready
+    // has changed, since a condition may be met.
     #[tactic(auto, unfolding(crate::specs::Stretches::first_stretch))]
-    pub(crate) fn first(self, ready: bool, limit: u16, row: &mut [u16]) -> u16
-        ensures value { (result ≡ first_stretch self ready limit row.old) × (row.new ≡ row.old) }
+    pub(crate) fn first(self, ready: bool, limit: u16, row: &[u16]) -> u16
+        ensures value { result ≡ first_stretch self ready limit row.now }
         ensures upper_bound { result ≤ limit }
     {
-        let anew = (self.past.ready & !ready) | (!self.past.ready & ready);
-        if self.wires.drq | self.wires.intrq | anew {
+        let changed = self.past.ready != ready;
+        if self.wires.drq | self.wires.intrq | changed {
             return 0;
         }
         self.ahead(limit, row)

@@ -34,7 +34,7 @@ impl Machine {
         ensures { result ≡ act_applied self act ready index }
     {
         let ended = activity::busy(self.activity) & !activity::busy(act.next);
-        let told = rings::condition_met(self.conditions(), self.past.ready, ready, index);
+        let met = rings::condition_met(self.conditions(), self.past.ready, ready, index);
         let after = self.parts().after(act.deed);
         Turn {
             machine: Machine {
@@ -42,7 +42,7 @@ impl Machine {
                 regs: after.regs,
                 wires: Wires {
                     drq: after.drq,
-                    intrq: self.wires.intrq | told | ended,
+                    intrq: self.wires.intrq | met | ended,
                 },
                 flags: after.flags,
                 head: after.head,
