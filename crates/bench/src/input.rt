@@ -13,6 +13,7 @@ pub struct Incoming {
     stdin: Stdin,
     bytes: [u8; 65536],
     left: Range<usize>,
+    // A flag, since nothing is left before each read too.
     over: bool,
     // The first error of a read, kept for `main` to end with: what was read before it is carried out.
     outcome: io::Result<()>,

@@ -30,7 +30,7 @@ fn resize(row: &mut Row, size: usize, cell: u16)
     }
 }
 
-// What a density's empty track holds.
+// What a density's empty track holds. (`scan::lead` says why a number of each density is a function of its own.)
 fn gap(mfm: bool) -> u16
     ensures { result ≡ gap_of mfm }
 {

@@ -18,7 +18,7 @@ pub fn step_time(mfm: bool, byte: u8) -> u16
     STEP_TIMES[mfm as usize][(byte % 4) as usize]
 }
 
-// The byte times that the head settles.
+// The byte times that the head settles. (`scan::lead` says why a number of each density is a function of its own.)
 #[tactic(auto, unfolding(crate::specs::Times::settle_time_of))]
 pub fn settle_time(mfm: bool) -> u16
     ensures { result ≡ settle_time_of mfm }

@@ -31,6 +31,7 @@ impl Status {
     pub const BUSY: u8 = 0x01;
 }
 
+// A mask or nothing. (One function over both values would be another word for `if`.)
 #[tactic(auto, unfolding(crate::specs::Status::bit_for))]
 fn bit(on: bool, mask: u8) -> u8
     ensures value { result ≡ bit_for on mask }

@@ -185,7 +185,7 @@ pub fn seek_data(mfm: bool, cell: u16, run: u8) -> Sought
 }
 
 impl DataMark {
-    // Not the variants' own numbers: the edits of must-fail/ and machines/ give two of them one byte.
+    // Not the variants' own numbers: the edits of must-fail-long/ give two of them one byte.
     #[tactic(auto, unfolding(crate::specs::DataMarks::mark_byte))]
     pub fn byte(self) -> u8
         ensures { result ≡ mark_byte self }
@@ -206,7 +206,7 @@ impl DataMark {
     }
 }
 
-// How many cells after an ID may hold its data mark.
+// How many cells after an ID may hold its data mark. (A function of its own, as `lead` is.)
 #[tactic(auto, unfolding(crate::specs::DataMarks::window_of))]
 pub fn window(mfm: bool) -> u8
     ensures { result ≡ window_of mfm }

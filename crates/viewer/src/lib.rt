@@ -113,7 +113,7 @@ fn refusal(side0: &[u16], side1: &[u16]) -> Outcome
     Ok(())
 }
 
-// Where the sector's data cells stand. Density, track and sector are no struct here, nor below: README and the demands name the
+// Where the sector's data cells stand. Density, track and sector are no struct here, nor below: README and PROMISES name the
 // arguments of these calls.
 #[tactic(auto, unfolding(crate::specs::Views::place_of, crate::specs::Views::first_place, crate::specs::Views::second_place))]
 pub fn find(
@@ -150,7 +150,7 @@ pub fn view<'a>(side0: &'a [u16], side1: &'a [u16], mfm: bool, track: u8, sector
     }
 }
 
-// The number that goes with the part.
+// The number that goes with the part: a u8 and a call of its own, as document 01 has it.
 #[tactic(auto, unfolding(refusals::specs::Numbers::number_in))]
 pub fn number(side0: &[u16], side1: &[u16], mfm: bool, track: u8, sector: u8) -> u8
     ensures { result ≡ number_of (place_of side0.now side1.now mfm track sector) }
