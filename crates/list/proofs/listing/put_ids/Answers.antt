@@ -11,5 +11,5 @@ pub loop-ids-preserved : goal.loop-ids-preserved
 unfolding id_line
 loop-ids-preserved c =
     let found = sym c.next_id.ensures ∙ c.in-Some.is in
-    let line = rw c.mark_behind-mark.ensures at c.put_id.ensures in
+    let line = rw c.mark_behind-mark.ensures at c.put_id.ensures.put in
     left_step _ _ _ _ _ _ c.loop-ids.invariant _ _ c.loop-ids-test.true found line
