@@ -1,5 +1,5 @@
 // What the program prints of a picture.
-ghost use Rattle.std.specs.Prelude.{◌≡◌, ◌+◌, ◌-◌, ◌*◌, ◌≤◌, [], ◌++◌, length, IfSome};
+ghost use Rattle.std.specs.Prelude.{◌≡◌, ◌+◌, ◌-◌, ◌*◌, ◌≤◌, ◌++◌, length, IfSome};
 ghost use Rattle.scan.specs.Rows.{longest_row};
 ghost use Rattle.scan.specs.Marks.{lead_of};
 ghost use Rattle.picture.specs.Reader.{reader_room};
@@ -44,13 +44,14 @@ fn put_ids(page: &mut Page, mfm: bool, row: &[u16]) -> u16
     size as u16
 }
 
-// Puts the whole listing of a picture: its head, a line for each ID, their count.
-#[tactic(auto, using(crate::proofs::Lengths::lengths), unfolding(crate::specs::Listing::listing_text))]
-fn put_listing(page: &mut Page, shape: Shape, track: u8, side: u8, row: &[u16])
+// Puts the whole listing of a picture in place of what is on the page: its head, a line for each ID, their count.
+#[tactic(auto, unfolding(crate::specs::Listing::listing_text))]
+pub fn put_listing(page: &mut Page, shape: Shape, track: u8, side: u8, row: &[u16])
     requires in_bounds { (3 ≤ length row.now) × (length row.now ≤ longest_row) }
-    requires empty { page.old ≡ [] }
-    ensures { page.new ≡ listing_text shape track side row.now }
+    ensures put { page.new ≡ listing_text shape track side row.now }
+    ensures bound { length page.new ≤ listing_room }
 {
+    page.clear();
     page.put_head(shape.letter, track, side);
     let ids = put_ids(page, shape.mfm, row);
     page.put_count(ids);
@@ -65,10 +66,11 @@ pub fn put_picture(page: &mut Page, bytes: &[u8], room: &mut [u16]) -> Option<us
     ensures put { page.new ≡ picture_text bytes.now room.old }
     ensures room_after { room.new ≡ reader_room bytes.now room.old }
     ensures bound { IfSome result (λ taken. taken ≤ length bytes.now) }
+    ensures fits { length page.new ≤ listing_room }
 {
-    page.clear();
     let answer = picture::read(bytes, room);
     if let Err(refusal) = answer.outcome {
+        page.clear();
         page.put_refused(refusal);
         return None;
     }
