@@ -1,6 +1,6 @@
 -- The numbers of refusals: document 01, "Numbers handed back". "The definition gives this paper's number and values for each of
 -- the enum's cases." Assumes nothing.
-use Rattle.std.specs.Prelude.{ℕ, Result, Ok, Err, ⊤}
+use Rattle.std.specs.Prelude.{List, ◌++◌, ℕ, Result, Ok, Err, ⊤, codes, decimal}
 use Rattle.refusals.specs.declared.Refusal.{Refusal}
 use Rattle.refusals.specs.declared.Refusal.TheVariants.{Length, Machine, Track, Cell, Register, Busy, Command, Kind, End, Side, Sector, Room}
 
@@ -33,3 +33,7 @@ number_of Room = 12
 unfoldable pub number_in : Outcome → ℕ
 number_in (Ok _) = 0
 number_in (Err refusal) = number_of refusal
+
+-- "A refusal prints `refused` and its number": the bytes of the word and a space, and the number in decimal
+unfoldable pub refused_text : Refusal → List ℕ
+refused_text refusal = codes "refused " ++ decimal (number_of refusal)

@@ -1,8 +1,8 @@
 // Why a call is refused: the numbers of document 01, "Numbers handed back", as an enum.
 #![tactic(auto)]
 
-ghost use Rattle.std.specs.Prelude.{◌≡◌};
-ghost use Rattle.refusals.specs.Numbers.{number_of, number_in};
+ghost use Rattle.std.specs.Prelude.{◌≡◌, Some};
+ghost use Rattle.refusals.specs.Numbers.{number_of, refused_text, number_in};
 
 use std::error::Error;
 use std::fmt;
@@ -63,6 +63,9 @@ impl Refusal {
 }
 
 impl fmt::Display for Refusal {
+    ghost output = { λ refusal. Some (refused_text refusal) };
+
+    #[tactic(auto, unfolding(crate::specs::Numbers::refused_text))]
     fn fmt<W: fmt::Write>(&self, f: &mut fmt::Formatter<W>) -> fmt::Result {
         write!(f, "refused {}", self.number())
     }
