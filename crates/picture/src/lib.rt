@@ -93,7 +93,7 @@ impl Kind {
     // The cells of the track.
     pub fn length(self) -> usize
         ensures value { result ≡ length_of self }
-        ensures bounds { (shortest_row ≤ result) × (result ≤ longest_row) }
+        ensures lower_bound { (shortest_row ≤ result) × (result ≤ longest_row) }
     {
         self.shape().length
     }
@@ -116,7 +116,7 @@ impl Kind {
     #[tactic(auto, unfolding(crate::specs::Layout::body_length))]
     fn body(self) -> usize
         ensures value { result ≡ body_length self }
-        ensures bounds { (2 ≤ result) × (result < longest_picture) }
+        ensures lower_bound { (2 ≤ result) × (result < longest_picture) }
     {
         let cells = self.length();
         2 + cells + (cells + 7) / 8

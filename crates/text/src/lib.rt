@@ -50,7 +50,7 @@ pub fn figures(n: u16) -> [u8; 5]
 #[tactic(auto, unfolding(crate::specs::Decimal::places_of))]
 pub fn places(n: u16) -> usize
     ensures value { result ≡ places_of n }
-    ensures bounds { (1 ≤ result) × (result ≤ 5) }
+    ensures lower_bound { (1 ≤ result) × (result ≤ 5) }
 {
     if n < 10 {
         1
