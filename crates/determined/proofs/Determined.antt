@@ -212,9 +212,10 @@ pub text_calls : (κs : Lfts 0)
 text_calls κs = (equation _, equation _, equation _, bounded _ _)
 
 pub picture_calls : (κs : Lfts 0)
-    → OneAnswer (picture.Kind.shape.Reads.Learnt κs)
+    → OneAnswer (picture.KindTryFromU8.try_from.Reads.Learnt κs)
+    × OneAnswer (picture.Kind.shape.Reads.Learnt κs)
     × OneAnswer (picture.Kind.length.Reads.Learnt κs)
-picture_calls κs = (bounded _ _, bounded _ _)
+picture_calls κs = (equation _, bounded _ _, bounded _ _)
 
 pub script_calls : (κs : Lfts 0)
     → OneAnswer (script.lines.Reader.start.Reads.Learnt κs)
