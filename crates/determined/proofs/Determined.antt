@@ -1,15 +1,16 @@
 -- Two answers to one input are equal, for each public call of each library, and so are the two rows that it leaves.
 -- Assumes nothing.
-use mathlib.Core.Path.{◌≡◌, sym, ap, ap₂, ◌∙◌}
+use mathlib.Core.Path.{◌≡◌, refl, sym, ap, ap₂, ◌∙◌}
 use mathlib.Core.Bool.{Bool}
 use mathlib.Core.List.{List}
 use Prim.Native.Nat.{ℕ}
 use lib.ListN.{length}
 use contract.Lifetimes.{Lfts}
 use denote.Ref.{Bor, MutBor}
-use Rattle.std.specs.Prelude.{Option, Result}
+use Rattle.std.specs.Prelude.{Option, Some, Result}
 use Rattle.common.proofs.Cases.{determined}
 use Rattle.refusals.specs.declared.Refusal.{Refusal}
+use Rattle.refusals.specs.Numbers.{refused_text}
 use Rattle.activity.specs.declared.Activity.{Activity}
 use Rattle.registers.specs.declared.Lines.{Lines}
 use Rattle.registers.specs.declared.Ring.{Ring}
@@ -34,6 +35,7 @@ use Rattle.script.specs.declared.requests.Request.{Request}
 use Rattle.determined.specs.Answers.{OneAnswer}
 use Rattle.crc.proofs as crc
 use Rattle.refusals.proofs as refusals
+use Rattle.refusals.specs.contracts.RefusalDisplay.TheImpl as RefusalDisplay
 use Rattle.scan.proofs as scan
 use Rattle.command.proofs as command
 use Rattle.activity.proofs as activity
@@ -74,6 +76,10 @@ pub refusals_calls : (κs : Lfts 0)
     → OneAnswer (refusals.Refusal.number.Reads.Learnt κs)
     × OneAnswer (refusals.number.Reads.Learnt κs)
 refusals_calls κs = (equation _, equation _)
+
+-- what a refusal prints: its `fmt` states one text for each
+pub refusal_text : (refusal : Refusal) → RefusalDisplay.ghosts.output refusal ≡ Some (refused_text refusal)
+refusal_text refusal = refl
 
 pub scan_calls : (κs : Lfts 0)
     → OneAnswer (scan.pass.Reads.Learnt κs)
