@@ -116,7 +116,7 @@ impl Kind {
     #[tactic(auto, unfolding(crate::specs::Layout::body_length))]
     fn body(self) -> usize
         ensures value { result ≡ body_length self }
-        ensures lower_bound { (2 ≤ result) × (result < longest_picture) }
+        ensures bounds { (2 ≤ result) × (result < longest_picture) }
     {
         let cells = self.length();
         2 + cells + (cells + 7) / 8
