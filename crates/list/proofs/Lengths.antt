@@ -1,4 +1,4 @@
--- How many bytes the lines and their parts have, or have at most: so the contracts that put them need not say it. Assumes nothing.
+-- How many bytes the lines and their parts have, or have at most. Assumes nothing.
 use Rattle.std.proofs.Common.{◌≡◌, refl, arith, Bool, true, false, Option, None, Some, ℕ, ◌-◌, ◌≤◌, length, length-append, length-drop}
 use Rattle.scan.specs.declared.Id.{Id}
 use Rattle.text.specs.Decimal.{decimal_of, figures_of, places_of}
