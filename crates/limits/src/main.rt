@@ -3,6 +3,8 @@
 // written out here, so that one that is wrong in the code and in its definition alike shows.
 #![tactic(auto)]
 
+ghost use Rattle.std.specs.Prelude.{◌<◌};
+
 mod calls;
 mod counts;
 mod tried;
@@ -12,38 +14,48 @@ use std::io;
 use std::io::Stdout;
 use tried::Tried;
 
-// Each count by its name, with the largest number that is taken.
-const COUNTS: [(&str, Count, u16); 16] = [
-    // "MFM (32 us) 188, 375, 625, 938"; "settle for 469 (FM) or 938 (MFM) byte times".
-    ("seek left", Count::SeekLeft, 938),
-    ("stop left", Count::StopLeft, 938),
-    ("settle left", Count::SettleLeft, 938),
-    // "the fifth ends the command"; "three flagged A1 cells"; "mark FE and six unflagged cells".
-    ("search pulses", Count::SearchPulses, 4),
-    ("search run", Count::SearchRun, 3),
-    ("search passed", Count::SearchPassed, 5),
-    ("hunt pulses", Count::HuntPulses, 4),
-    ("hunt run", Count::HuntRun, 3),
-    ("address passed", Count::AddressPassed, 5),
-    // "128, 256, 512, 1,024" and the two CRC cells; "among the first .. 43 (MFM) cells after the ID's last".
-    ("window left", Count::WindowLeft, 1026),
-    ("window passed", Count::WindowPassed, 42),
-    ("window run", Count::WindowRun, 3),
-    ("data left", Count::DataLeft, 1026),
-    // "Then the data, two CRC bytes, one FF"; "MFM from 23: twelve 00, three flagged A1, mark", which is at 38.
-    ("preamble left", Count::PreambleLeft, 1027),
-    ("preamble passed", Count::PreamblePassed, 37),
-    ("put left", Count::PutLeft, 1027),
-];
+// What is tried for a count: the largest number that is taken, and the next, which is refused.
+fn up_to(count: Count, largest: u16) -> (Tried, Tried)
+    requires { largest < 65535 }
+{
+    (
+        Tried::counting(count, largest),
+        Tried::counting(count, largest + 1),
+    )
+}
+
+// Each count by its name, up to the largest number that is taken.
+fn bounds() -> [(&'static str, (Tried, Tried)); 16] {
+    [
+        // "MFM (32 us) 188, 375, 625, 938"; "settle for 469 (FM) or 938 (MFM) byte times".
+        ("seek left", up_to(Count::SeekLeft, 938)),
+        ("stop left", up_to(Count::StopLeft, 938)),
+        ("settle left", up_to(Count::SettleLeft, 938)),
+        // "the fifth ends the command"; "three flagged A1 cells"; "mark FE and six unflagged cells".
+        ("search pulses", up_to(Count::SearchPulses, 4)),
+        ("search run", up_to(Count::SearchRun, 3)),
+        ("search passed", up_to(Count::SearchPassed, 5)),
+        ("hunt pulses", up_to(Count::HuntPulses, 4)),
+        ("hunt run", up_to(Count::HuntRun, 3)),
+        ("address passed", up_to(Count::AddressPassed, 5)),
+        // "128, 256, 512, 1,024" and the two CRC cells; "among the first .. 43 (MFM) cells after the ID's last".
+        ("window left", up_to(Count::WindowLeft, 1026)),
+        ("window passed", up_to(Count::WindowPassed, 42)),
+        ("window run", up_to(Count::WindowRun, 3)),
+        ("data left", up_to(Count::DataLeft, 1026)),
+        // "Then the data, two CRC bytes, one FF"; "MFM from 23: twelve 00, three flagged A1, mark", which is at 38.
+        ("preamble left", up_to(Count::PreambleLeft, 1027)),
+        ("preamble passed", up_to(Count::PreamblePassed, 37)),
+        ("put left", up_to(Count::PutLeft, 1027)),
+    ]
+}
 
 fn print_line(out: Stdout, name: &str, taken: Tried, refused: Tried) -> io::Result<()> {
     println!(out; "{name} {taken}, {refused}")
 }
 
 fn print_counts(out: Stdout) -> io::Result<()> {
-    for (name, count, largest) in COUNTS {
-        let taken = Tried::counting(count, largest);
-        let refused = Tried::counting(count, largest.saturating_add(1));
+    for (name, (taken, refused)) in bounds() {
         print_line(out, name, taken, refused)?;
     }
     Ok(())
