@@ -28,9 +28,12 @@ use Rattle.viewer.specs.Views.{place_of, part_cells, part_start, number_of}
 use Rattle.viewer.specs.declared.Place.{Place}
 use Rattle.picture.specs.Reader.{reader_answer, reader_room}
 use Rattle.picture.specs.declared.Answer.{Answer}
+use Rattle.script.specs.Lines.{items_of, fed_reader, ended_line, outcome_of, reader_with}
 use Rattle.script.specs.Requests.{asked_by, request_of}
 use Rattle.script.specs.declared.lines.BadLine.{BadLine}
 use Rattle.script.specs.declared.lines.Line.{Line}
+use Rattle.script.specs.declared.lines.Numbers.{Numbers}
+use Rattle.script.specs.declared.lines.Reader.{Reader}
 use Rattle.script.specs.declared.requests.Request.{Request}
 use Rattle.determined.specs.Answers.{OneAnswer}
 use Rattle.crc.proofs as crc
@@ -241,7 +244,34 @@ pub request_call : (κs : Lfts 1) (line line' : Bor Line) (r r' : Result (Option
     → r ≡ r'
 request_call κs line line' r r' e e' same p q = p ∙ ap request_of same ∙ sym q
 
--- and so are numbers
+-- and so is what holds its numbers
+pub numbers_call : (κs : Lfts 1) (numbers numbers' : Bor Numbers) (r r' : Bor (List ℕ)) (e e' : _)
+    → numbers.now ≡ numbers'.now
+    → script.lines.Numbers.as_slice.Reads.Learnt κs (numbers, tt) r e
+    → script.lines.Numbers.as_slice.Reads.Learnt κs (numbers', tt) r' e'
+    → r.now ≡ r'.now
+numbers_call κs numbers numbers' r r' e e' same p q = p.0 ∙ ap items_of same ∙ sym q.0
+
+-- the reader is changed where it stands
+module _ (κs : Lfts 1) where
+  pub feed_call : (byte : ℕ) (reader reader' : MutBor Reader) (r r' : Unit {0}) (e e' : MutBor Reader × (ℕ × Unit {0}))
+      → reader.now ≡ reader'.now
+      → script.lines.Reader.feed.Reads.Learnt κs (reader, (byte, tt)) r e
+      → script.lines.Reader.feed.Reads.Learnt κs (reader', (byte, tt)) r' e'
+      → (r ≡ r') × (e.0.now ≡ e'.0.now)
+  feed_call byte reader reader' r r' e e' same p q = (refl, p ∙ ap (λ found. fed_reader found byte) same ∙ sym q)
+
+  pub end_call : (newline : Bool) (reader reader' : MutBor Reader) (r r' : Result (Unit {0}) BadLine) (e e' : MutBor Reader × (Bool × Unit {0}))
+      → reader.now ≡ reader'.now
+      → script.lines.Reader.end.Reads.Learnt κs (reader, (newline, tt)) r e
+      → script.lines.Reader.end.Reads.Learnt κs (reader', (newline, tt)) r' e'
+      → (r ≡ r') × (e.0.now ≡ e'.0.now)
+  end_call newline reader reader' r r' e e' same p q = (
+    p.0 ∙ ap (λ found. outcome_of (ended_line found newline)) same ∙ sym q.0,
+    p.1 ∙ ap (λ found. reader_with found (ended_line found newline)) same ∙ sym q.1,
+  )
+
+-- a letter and numbers
 pub asked_by_call : (κs : Lfts 1) (letter : Option ℕ) (numbers numbers' : Bor (List ℕ)) (r r' : Result (Option Request) BadLine) (e e' : _)
     → numbers.now ≡ numbers'.now
     → script.asked_by.Reads.Learnt κs (letter, (numbers, tt)) r e

@@ -1,6 +1,6 @@
 -- What a line asks for. Assumes nothing.
 use Rattle.std.specs.Prelude.{cond, ℕ, Bool, ltb, eqb, List, length, get_or, Option, Some, None, Result, Ok, Err}
-use Rattle.script.specs.Lines.{bad_line}
+use Rattle.script.specs.Lines.{bad_line, items_of}
 use Rattle.script.specs.declared.lines.BadLine.{BadLine}
 use Rattle.script.specs.declared.lines.Line.{Line}
 use Rattle.script.specs.declared.requests.Request.{Request}
@@ -89,4 +89,4 @@ asked_by (Some letter) numbers = something (asked_of letter numbers)
 asked_by None numbers = cond (eqb (length numbers) 0) (Ok None) (Err bad_line)
 
 unfoldable pub request_of : Line → Result (Option Request) BadLine
-request_of l = asked_by l.letter l.numbers.items
+request_of l = asked_by l.letter (items_of l.numbers)

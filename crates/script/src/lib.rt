@@ -5,6 +5,6 @@ mod lines;
 mod requests;
 mod words;
 
-pub use lines::{BadLine, Line, Reader};
+pub use lines::{BadLine, Line, Numbers, Reader};
 pub use requests::{Call, Request, Task, asked_by, request_of};
 pub use words::Word;

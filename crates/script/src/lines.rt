@@ -1,15 +1,24 @@
 // A line of a script: its letter and its numbers.
-ghost use Rattle.std.specs.Prelude.{◌≡◌};
-ghost use Rattle.script.specs.Lines.{no_line, lettered_line, numbered_line, line_with, line_start, line_and, word_end, cr_held, cr_stray, word_grown, fed_reader, ended_line};
+ghost use Rattle.std.specs.Prelude.{◌≡◌, ◌≤◌, length, Ok, Err, OnOk, OnErr};
+ghost use Rattle.script.specs.Lines.{bad_line, no_numbers, numbers_with, items_of, no_line, lettered_line, numbered_line, line_with, line_start, reader_with, line_and, word_end, word_grown, fed_reader, ended_line, outcome_of};
 
 use crate::words::Word;
-use arrayvec::ArrayVec;
 
-// A line so far: its letter, and after it a place and 64 cells at most.
-#[derive(Clone, Drop)]
+// The most numbers that a line has: a place and 64 cells.
+const MOST: usize = 65;
+
+// A line so far: its letter, and the numbers after it.
+#[derive(Clone, Copy)]
 pub struct Line {
     pub letter: Option<u8>,
-    pub numbers: ArrayVec<u16, 65>,
+    pub numbers: Numbers,
+}
+
+// The numbers of a line: the first ones of an array. (The toolchain's vectors of a fixed room are not Copy, as lines are.)
+#[derive(Clone, Copy)]
+pub struct Numbers {
+    cells: [u16; MOST],
+    count: usize,
 }
 
 // A line that is an error of the script.
@@ -17,15 +26,52 @@ pub struct Line {
 pub struct BadLine;
 
 // A line while its bytes come in. A comment of any length is passed over, so no line is ever held whole.
-#[derive(Clone, Drop)]
+#[derive(Clone, Copy)]
 pub struct Reader {
-    // It is bad from a word on that is neither its letter nor a number that it has room for.
-    pub line: Result<Line, BadLine>,
+    pub line: Line,
+    // It is bad from a word on that is neither its letter nor a number that it has room for. (A flag beside the line: by a Result
+    // the line is moved at each byte.)
+    pub bad: bool,
     pub word: Word,
     // Two flags and no enum of three states: `fed` and `ended` also say what they give where both are on.
     pub comment: bool,
     // There is a carriage return outside a comment: only a newline may follow.
     pub cr: bool,
+}
+
+impl Numbers {
+    #[tactic(auto, unfolding(crate::specs::Lines::no_numbers))]
+    fn none() -> Numbers
+        ensures { result ≡ no_numbers }
+    {
+        Numbers {
+            cells: [0; MOST],
+            count: 0,
+        }
+    }
+
+    // One number more, where there is room.
+    #[tactic(auto, unfolding(crate::specs::Lines::numbers_with))]
+    fn push(&mut self, number: u16) -> Result<(), BadLine>
+        ensures ok { OnOk result (numbers_with self.old number ≡ Ok self.new) }
+        ensures err { OnErr result ((numbers_with self.old number ≡ Err bad_line) × (self.new ≡ self.old)) }
+    {
+        let count = self.count;
+        if MOST <= count {
+            return Err(BadLine);
+        }
+        self.cells[count] = number;
+        self.count = count + 1;
+        Ok(())
+    }
+
+    #[tactic(auto, unfolding(crate::specs::Lines::items_of))]
+    pub fn as_slice(&self) -> &[u16]
+        ensures value { result.now ≡ items_of self.now }
+        ensures fits { length result.now ≤ 65 }
+    {
+        &self.cells[..self.count.min(MOST)]
+    }
 }
 
 impl Line {
@@ -35,53 +81,45 @@ impl Line {
     {
         Line {
             letter: None,
-            numbers: ArrayVec::new(),
+            numbers: Numbers::none(),
         }
     }
 
     // The first word is the letter.
     #[tactic(auto, unfolding(crate::specs::Lines::lettered_line))]
-    fn with_letter(self, word: Word) -> Result<Line, BadLine>
-        ensures { result ≡ lettered_line self word }
+    fn take_letter(&mut self, word: Word) -> Result<(), BadLine>
+        ensures ok { OnOk result (lettered_line self.old word ≡ Ok self.new) }
+        ensures err { OnErr result ((lettered_line self.old word ≡ Err bad_line) × (self.new ≡ self.old)) }
     {
         let letter = word.letter().ok_or(BadLine)?;
-        Ok(Line {
-            letter: Some(letter),
-            ..self
-        })
+        self.letter = Some(letter);
+        Ok(())
     }
 
     // Each later word is a number.
     #[tactic(auto, unfolding(crate::specs::Lines::numbered_line))]
-    fn with_number(mut self, word: Word) -> Result<Line, BadLine>
-        ensures { result ≡ numbered_line self word }
+    fn take_number(&mut self, word: Word) -> Result<(), BadLine>
+        ensures ok { OnOk result (numbered_line self.old word ≡ Ok self.new) }
+        ensures err { OnErr result ((numbered_line self.old word ≡ Err bad_line) × (self.new ≡ self.old)) }
     {
         let number = word.number().ok_or(BadLine)?;
-        self.numbers.try_push(number).map_err(|_| BadLine)?;
-        Ok(self)
+        self.numbers.push(number)
     }
 
-    // The line with the word that ends here; between two spaces there is none.
+    // The word that ends; between two spaces there is none.
     #[tactic(auto, unfolding(crate::specs::Lines::line_with))]
-    fn with(self, word: Word) -> Result<Line, BadLine>
-        ensures { result ≡ line_with self word }
+    fn take(&mut self, word: Word) -> Result<(), BadLine>
+        ensures ok { OnOk result (line_with self.old word ≡ Ok self.new) }
+        ensures err { OnErr result ((line_with self.old word ≡ Err bad_line) × (self.new ≡ self.old)) }
     {
         if word.size == 0 {
-            Ok(self)
+            Ok(())
         } else if self.letter.is_none() {
-            self.with_letter(word)
+            self.take_letter(word)
         } else {
-            self.with_number(word)
+            self.take_number(word)
         }
     }
-}
-
-// A line with the word that ends here, where it is not bad already.
-#[tactic(auto, unfolding(crate::specs::Lines::line_and))]
-fn ended(line: Result<Line, BadLine>, word: Word) -> Result<Line, BadLine>
-    ensures { result ≡ line_and line word }
-{
-    line?.with(word)
 }
 
 impl Reader {
@@ -91,85 +129,97 @@ impl Reader {
         ensures { result ≡ line_start }
     {
         Reader {
-            line: Ok(Line::none()),
+            line: Line::none(),
+            bad: false,
             word: Word::none(),
             comment: false,
             cr: false,
+        }
+    }
+
+    // The line takes the word that ends. A bad line stays bad.
+    #[tactic(auto, unfolding(crate::specs::Lines::line_and))]
+    fn take_word(&mut self)
+        ensures { self.new ≡ reader_with self.old (line_and self.old) }
+    {
+        if !self.bad {
+            self.bad = self.line.take(self.word).is_err();
         }
     }
 
     // After a word, and in a comment or not.
     #[tactic(auto, unfolding(crate::specs::Lines::word_end))]
-    fn end_word(self, comment: bool) -> Reader
-        ensures { result ≡ word_end self comment }
+    fn end_word(&mut self, comment: bool)
+        ensures { self.new ≡ word_end self.old comment }
     {
-        Reader {
-            line: ended(self.line, self.word),
-            word: Word::none(),
-            comment,
-            cr: false,
-        }
-    }
-
-    // After a carriage return, which belongs to the line's end if a newline comes next.
-    #[tactic(auto, unfolding(crate::specs::Lines::cr_held))]
-    fn hold_cr(self) -> Reader
-        ensures { result ≡ cr_held self }
-    {
-        Reader { cr: true, ..self }
-    }
-
-    // After a carriage return and a byte that is no newline: the line is bad, whatever follows.
-    #[tactic(auto, unfolding(crate::specs::Lines::cr_stray))]
-    fn stray_cr(self) -> Reader
-        ensures { result ≡ cr_stray self }
-    {
-        Reader {
-            line: Err(BadLine),
-            ..self
-        }
+        self.take_word();
+        self.word = Word::none();
+        self.comment = comment;
+        self.cr = false;
     }
 
     // After one byte more of a word.
     #[tactic(auto, unfolding(crate::specs::Lines::word_grown))]
-    fn grow_word(self, byte: u8) -> Reader
-        ensures { result ≡ word_grown self byte }
+    fn grow_word(&mut self, byte: u8)
+        ensures { self.new ≡ word_grown self.old byte }
     {
-        Reader {
-            word: self.word.with(byte),
-            comment: false,
-            cr: false,
-            ..self
-        }
+        self.word = self.word.with(byte);
+        self.comment = false;
+        self.cr = false;
     }
 
-    // After one byte more, which is no newline.
-    #[tactic(auto, unfolding(crate::specs::Lines::fed_reader))]
-    pub fn fed(self, byte: u8) -> Reader
-        ensures { result ≡ fed_reader self byte }
+    // Takes one byte more, which is no newline. A comment passes over it. A carriage return belongs to the line's end if a newline
+    // comes next; with any other byte after it the line is bad, whatever follows.
+    #[tactic(auto, unfolding(crate::specs::Lines::fed_reader, crate::specs::Lines::cr_held, crate::specs::Lines::cr_stray))]
+    pub fn feed(&mut self, byte: u8)
+        ensures { self.new ≡ fed_reader self.old byte }
     {
         if self.comment {
-            return self;
+            return;
         }
         if self.cr {
-            return self.stray_cr();
+            self.bad = true;
+            return;
         }
         match byte {
             b' ' => self.end_word(false),
             b'#' => self.end_word(true),
-            b'\r' => self.hold_cr(),
+            b'\r' => self.cr = true,
             _ => self.grow_word(byte),
         }
     }
 
-    // The whole line, at its newline or else at the end of the input, before which no carriage return may stand.
-    #[tactic(auto, unfolding(crate::specs::Lines::ended_line))]
+    // The reader after one byte more.
+    pub fn fed(self, byte: u8) -> Reader
+        ensures { result ≡ fed_reader self byte }
+    {
+        let mut reader = self;
+        reader.feed(byte);
+        reader
+    }
+
+    // Ends the line, at its newline or else at the end of the input, before which no carriage return may stand. It is `line` now.
+    #[tactic(auto, unfolding(crate::specs::Lines::ended_line, crate::specs::Lines::line_and))]
+    pub fn end(&mut self, newline: bool) -> Result<(), BadLine>
+        ensures value { result ≡ outcome_of (ended_line self.old newline) }
+        ensures reader { self.new ≡ reader_with self.old (ended_line self.old newline) }
+    {
+        if self.cr & !newline {
+            self.bad = true;
+        }
+        self.take_word();
+        if self.bad {
+            return Err(BadLine);
+        }
+        Ok(())
+    }
+
+    // The whole line.
     pub fn ended(self, newline: bool) -> Result<Line, BadLine>
         ensures { result ≡ ended_line self newline }
     {
-        if self.cr & !newline {
-            return Err(BadLine);
-        }
-        ended(self.line, self.word)
+        let mut reader = self;
+        reader.end(newline)?;
+        Ok(reader.line)
     }
 }

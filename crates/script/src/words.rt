@@ -16,8 +16,9 @@ pub struct Word {
 fn grown(value: Option<u16>, byte: u8) -> Option<u16>
     ensures { result ≡ value_with value byte }
 {
+    let value = value?;
     let digit = char::from(byte).to_digit(16)?;
-    Some(value? % 4096 * 16 + digit as u16)
+    Some(value % 4096 * 16 + digit as u16)
 }
 
 impl Word {
