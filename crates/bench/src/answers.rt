@@ -2,7 +2,7 @@
 ghost use Rattle.std.specs.Prelude.{◌≡◌};
 ghost use Rattle.bench.specs.States.{state_of};
 
-use crate::digits::{Hex, bit, byte, word};
+use crate::digits::{bit, byte, put};
 use command::Chip;
 use refusals::Outcome;
 use registers::{Lines, Regs, Wires};
@@ -50,7 +50,7 @@ impl State {
 }
 
 // Document 01's number of an outcome.
-fn number(outcome: Outcome) -> Hex {
+fn number(outcome: Outcome) -> [u8; 2] {
     byte(refusals::number(outcome))
 }
 
@@ -58,37 +58,42 @@ impl Display for Answer {
     fn fmt<W: fmt::Write>(&self, f: &mut Formatter<W>) -> fmt::Result {
         match *self {
             Answer::Nothing => Ok(()),
-            Answer::Done(outcome) => write!(f, " {}", number(outcome)),
-            Answer::Byte(outcome, value) => write!(f, " {} {}", number(outcome), byte(value)),
-            Answer::Run(outcome, tally) => write!(
-                f,
-                " {} {} {} {}",
-                number(outcome),
-                word(tally.passed),
-                word(tally.inward),
-                word(tally.outward)
-            ),
+            Answer::Done(outcome) => {
+                let [n, m] = number(outcome);
+                put(f, &[b' ', n, m])
+            }
+            Answer::Byte(outcome, value) => {
+                let ([n, m], [a, b]) = (number(outcome), byte(value));
+                put(f, &[b' ', n, m, b' ', a, b])
+            }
+            Answer::Run(outcome, tally) => {
+                let [n, m] = number(outcome);
+                let [a, b, c, d] = text::hex(tally.passed);
+                put(f, &[b' ', n, m, b' ', a, b, c, d])?;
+                let [a, b, c, d] = text::hex(tally.inward);
+                let [p, q, r, s] = text::hex(tally.outward);
+                put(f, &[b' ', a, b, c, d, b' ', p, q, r, s])
+            }
         }
     }
 }
 
 impl Display for State {
     fn fmt<W: fmt::Write>(&self, f: &mut Formatter<W>) -> fmt::Result {
+        let [s, t] = byte(self.status);
         let Regs { tr, sr, dr, .. } = self.regs;
-        write!(
+        let ([a, b], [c, d], [g, h]) = (byte(tr), byte(sr), byte(dr));
+        put(
             f,
-            " | {} {} {} {}",
-            byte(self.status),
-            byte(tr),
-            byte(sr),
-            byte(dr)
+            &[b' ', b'|', b' ', s, t, b' ', a, b, b' ', c, d, b' ', g, h],
         )?;
         let Wires { drq, intrq } = self.wires;
-        write!(f, " {} {} {}", bit(drq), bit(intrq), word(self.position))?;
+        let [w, x, y, z] = text::hex(self.position);
+        put(f, &[b' ', bit(drq), b' ', bit(intrq), b' ', w, x, y, z])?;
         match self.chip {
             Chip::Wd1793 => Ok(()),
             // It has a side output.
-            Chip::Wd1797 => write!(f, " {}", bit(self.sso)),
+            Chip::Wd1797 => put(f, &[b' ', bit(self.sso)]),
         }
     }
 }

@@ -2,7 +2,7 @@
 ghost use Rattle.std.specs.Prelude.{◌≤◌};
 
 use crate::output::Outgoing;
-use script::{BadLine, Line, Reader};
+use script::Reader;
 use std::io;
 use std::io::{Read, Stdin, Write};
 use std::ops::Range;
@@ -63,16 +63,16 @@ impl Incoming {
         Ok(self.left.next().map(|at| self.bytes[at]))
     }
 
-    // Reads a line, to its newline or to the end of the input. A proved loop has to end: so it ends at a length that no line has.
-    pub fn line(&mut self, out: &mut Outgoing) -> io::Result<Result<Line, BadLine>> {
-        let mut reader = Reader::start();
+    // Feeds a line to a reader, to its newline or to the end of the input, and says whether there was a newline. A proved loop has to
+    // end: so it ends at a length that no line has.
+    pub fn feed_line(&mut self, reader: &mut Reader, out: &mut Outgoing) -> io::Result<bool> {
         for _ in 0..u64::MAX {
             match self.next(out)? {
-                Some(b'\n') => return Ok(reader.ended(true)),
-                Some(byte) => reader = reader.fed(byte),
+                Some(b'\n') => return Ok(true),
+                Some(byte) => reader.feed(byte),
                 None => break,
             }
         }
-        Ok(reader.ended(false))
+        Ok(false)
     }
 }

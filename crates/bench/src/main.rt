@@ -14,6 +14,7 @@ mod views;
 use failures::Failure;
 use input::Incoming;
 use output::Outgoing;
+use script::Reader;
 use sessions::Session;
 use std::io;
 use std::io::Write;
@@ -24,8 +25,10 @@ fn work_line(
     input: &mut Incoming,
     out: &mut Outgoing,
 ) -> Result<(), Failure> {
-    let line = input.line(out)??;
-    session.carry_out(&line, out)
+    let mut reader = Reader::start();
+    let newline = input.feed_line(&mut reader, out)?;
+    reader.end(newline)?;
+    session.carry_out(&reader.line, out)
 }
 
 // Works the script up to its end, or to a line that is an error, and prints the number of that one. A proved loop has to end, and

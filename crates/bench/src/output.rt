@@ -1,4 +1,6 @@
 // Standard output, over a buffer that goes out whenever it is full.
+ghost use Rattle.std.specs.Prelude.{◌≡◌, [], OnOk};
+
 use arrayvec::ArrayVec;
 use std::io;
 use std::io::{Stdout, Write};
@@ -17,19 +19,43 @@ impl Outgoing {
             waiting: ArrayVec::new(),
         }
     }
+
+    // Hands the bytes that wait over.
+    fn hand_over(&mut self) -> io::Result<()>
+        ensures { OnOk result (self.new.waiting.items ≡ []) }
+    {
+        self.stdout.write_all(self.waiting.as_slice())?;
+        self.waiting.clear();
+        Ok(())
+    }
+
+    // The bytes of a piece that does not fit.
+    fn write_over(&mut self, bytes: &[u8]) -> io::Result<()> {
+        for byte in bytes {
+            if self.waiting.is_full() {
+                self.hand_over()?;
+            }
+            self.waiting.push(*byte);
+        }
+        Ok(())
+    }
 }
 
 impl Write for Outgoing {
     fn write(&mut self, bytes: &[u8]) -> io::Result<usize> {
-        if self.waiting.is_full() {
-            self.flush()?;
+        self.write_all(bytes)?;
+        Ok(bytes.len())
+    }
+
+    fn write_all(&mut self, bytes: &[u8]) -> io::Result<()> {
+        if self.waiting.remaining_capacity() < bytes.len() {
+            return self.write_over(bytes);
         }
-        self.waiting.write(bytes)
+        self.waiting.try_extend_from_slice(bytes).unwrap();
+        Ok(())
     }
 
     fn flush(&mut self) -> io::Result<()> {
-        self.stdout.write_all(self.waiting.as_slice())?;
-        self.waiting.clear();
-        Ok(())
+        self.hand_over()
     }
 }

@@ -4,7 +4,7 @@ use crate::calls::Controller;
 use crate::failures::Failure;
 use crate::output::Outgoing;
 use crate::rows::Rows;
-use crate::views::{Cells, View};
+use crate::views::{View, put_cells};
 use script::{Line, Request};
 use std::io;
 use std::io::Write;
@@ -24,7 +24,8 @@ impl Session {
     }
 
     // What the controller says to a line that worked it or its drive lines.
-    fn tell(&self, letter: char, answer: Answer, out: &mut Outgoing) -> io::Result<()> {
+    fn tell(&self, letter: u8, answer: Answer, out: &mut Outgoing) -> io::Result<()> {
+        let letter = char::from(letter);
         let state = self.controller.state();
         writeln!(out, "{letter}{answer}{state}")
     }
@@ -35,7 +36,6 @@ impl Session {
         let (Some(letter), Some(request)) = (line.letter, request) else {
             return Ok(());
         };
-        let letter = char::from(letter);
         match request {
             Request::PowerOn {
                 mfm,
@@ -55,12 +55,13 @@ impl Session {
                 self.tell(letter, answer, out)?;
             }
             Request::Rows(task) => {
-                let shown = Cells(self.rows.carry_out(task, line)?);
-                writeln!(out, "{letter}{shown}")?;
+                let shown = self.rows.carry_out(task, line)?;
+                out.write_all(&[letter])?;
+                put_cells(out, shown)?;
             }
             Request::View { mfm, track, sector } => {
-                let view = View::of(&self.rows, mfm, track, sector);
-                writeln!(out, "{letter}{view}")?;
+                out.write_all(&[letter])?;
+                View::of(&self.rows, mfm, track, sector).put(out)?;
             }
         }
         Ok(())

@@ -1,0 +1,2 @@
+-- What the proofs of `bench` share.
+pub mod Laws
