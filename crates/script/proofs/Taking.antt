@@ -1,5 +1,5 @@
 -- A number that a line takes stands after those that it has. Assumes nothing.
-use Rattle.std.proofs.Common.{◌≡◌, List, [], ◌∷◌, ℕ, ◌+◌, ◌<◌, ◌++◌, length, set, Ok, arith}
+use Rattle.std.proofs.Common.{◌≡◌, [], ◌∷◌, ℕ, ◌+◌, ◌<◌, ◌++◌, length, set, Ok, arith}
 use Rattle.std.proofs.lemmas.List.{take_more_set}
 use Rattle.script.specs.Lines.{items_of, numbers_with}
 use Rattle.script.specs.declared.lines.Numbers.{Numbers}
